@@ -1,0 +1,5 @@
+pub mod Fars
+pub mod Certificate
+pub mod Settling
+pub mod Certified
+pub mod Metric
