@@ -1,8 +1,9 @@
 -- The laws of distances and next places, each as a type; a proof of the type is the theorem. Assumes nothing.
 use mathlib.Core.Path.{_≡_}
+use mathlib.Core.Bool.{true}
 use Prim.Native.Nat.{ℕ, _+_, _<_, _≤_}
 use Rattle.ways.specs.Map.{Map, Far, Never, At, within, far, Hop, Nowhere, To, hop}
-use Rattle.ways.specs.Ways.{Route, AtMost, BothWays, Joined, Distances}
+use Rattle.ways.specs.Ways.{Route, AtMost, BothWays, Joined, Distances, hangsTogether}
 
 -- The distance is the cost of a way of fewer than n roads, and no way costs less; where there is no distance there is no way.
 pub record LeastWay (z : Map) (d a : ℕ) : Type 0 where
@@ -50,3 +51,7 @@ Next-places = (z : Map) (d a : ℕ) → d < z .n → a < z .n → NextPlace z d 
 -- Where every place has a way to one and roads cost the same both ways, there is a way from each to each.
 abbrev pub Joined-by-one : Type 0
 Joined-by-one = (z : Map) (d : ℕ) → BothWays z → d < z .n → ((a : ℕ) → a < z .n → (c : ℕ) × (far z d a ≡ At c)) → Joined z
+
+-- The test on place 0 says just that there is a way from each place to each.
+abbrev pub Hanging-together : Type 0
+Hanging-together = (z : Map) → BothWays z → 0 < z .n → (hangsTogether z ≡ true → Joined z) × (Joined z → hangsTogether z ≡ true)

@@ -1,7 +1,8 @@
 -- Ways along roads, maps that hang together, and what makes a table the distances to a place. Assumes nothing.
 use mathlib.Core.Path.{_≡_}
-use Prim.Native.Nat.{ℕ, _+_, _<_, _≤_}
-use Rattle.ways.specs.Map.{Map, Far, At, far}
+use mathlib.Core.Bool.{Bool, true, _&&_}
+use Prim.Native.Nat.{ℕ, zero, suc, _+_, _<_, _≤_}
+use Rattle.ways.specs.Map.{Map, Far, At, far, some}
 
 -- Route z d a c k: a way from a to d that costs c and has k roads. It is no road at all, or a road and a way from its end.
 pub data Route (z : Map) (d : ℕ) : ℕ → ℕ → ℕ → Type 0 where
@@ -26,3 +27,12 @@ pub record Distances (z : Map) (d : ℕ) (f : ℕ → Far) : Type 0 where
   pub here : f d ≡ At 0
   pub step : (a k : ℕ) → a < z .n → (a ≡ d → ⊥) → f a ≡ At k → (e : ℕ) × (j : ℕ) × (e < z .n) × (0 < z .cost a e) × (f e ≡ At j) × (k ≡ z .cost a e + j)
   pub less : (a e j : ℕ) → a < z .n → e < z .n → 0 < z .cost a e → f e ≡ At j → (k : ℕ) × (f a ≡ At k) × (k ≤ z .cost a e + j)
+
+-- f holds of each number below k
+unfoldable pub allBelow : ℕ → (ℕ → Bool) → Bool
+allBelow zero f = true
+allBelow (suc k) f = f k && allBelow k f
+
+-- the map hangs together: there is a way from each place to place 0
+abbrev pub hangsTogether : Map → Bool
+hangsTogether z = allBelow (z .n) (λ a. some (far z 0 a))

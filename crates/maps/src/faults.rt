@@ -1,0 +1,23 @@
+// The number by which a fault is told.
+ghost use mathlib.Core.Path.{_≡_};
+ghost use Rattle.maps.specs.Faults.{numberOf};
+use super::kinds::Fault;
+
+impl Fault {
+    /// The number by which the fault is told; 0 for want of memory, which is no fault of the input.
+    pub fn number(self) -> u8
+        ensures { λ r. ⌜ r ≡ numberOf self ⌝ }
+    {
+        match self {
+            Fault::Form => 1,
+            Fault::Range => 2,
+            Fault::Order => 3,
+            Fault::Cost => 4,
+            Fault::Apart => 5,
+            Fault::Room => 6,
+            Fault::Plan => 7,
+            Fault::Same => 8,
+            Fault::Memory => 0,
+        }
+    }
+}

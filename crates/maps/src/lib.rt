@@ -1,0 +1,4 @@
+// Maps: faults and their numbers, roads, and the map in memory.
+pub mod faults;
+pub mod kinds;
+pub mod roads;
