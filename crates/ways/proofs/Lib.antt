@@ -3,3 +3,6 @@ pub mod Certificate
 pub mod Settling
 pub mod Certified
 pub mod Metric
+pub mod LeastWays
+pub mod NextPlaces
+pub mod Hanging
