@@ -1,0 +1,3 @@
+pub mod Arcs
+pub mod Costs
+pub mod RoadLists
