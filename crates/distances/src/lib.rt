@@ -1,0 +1,2 @@
+// Distances and next places: one row, all rows, and whether a map hangs together.
+mod queue;
