@@ -1,2 +1,3 @@
 // Distances and next places: one row, all rows, and whether a map hangs together.
+mod dijkstra;
 mod queue;
