@@ -1,3 +1,4 @@
 pub mod Trees
 pub mod Following
 pub mod Searching
+pub mod Turns

@@ -2,7 +2,7 @@
 ghost use mathlib.Core.Path.{_≡_};
 ghost use Prim.Native.Nat.{ℕ, _+_, _^_, _<_, _≤_};
 ghost use lib.ListN.{length, getD};
-ghost use Rattle.maps.specs.Arcs.{mapIn};
+ghost use Rattle.maps.specs.Charts.{chart};
 ghost use Rattle.distances.specs.Rows.{FarRow};
 ghost use Rattle.distances.specs.Steps.{Followed};
 use maps::map::RoadMap;
@@ -24,5 +24,22 @@ fn follow(places: &[u16], costs: &[u16], away: u32, dist: &mut [u32], queue: &mu
             dist[e] = w;
             queue.put(e, w);
         }
+    }
+}
+
+/// Writes how far each place is from `d`, the highest number where there is no way.
+/// Each place is settled once and each arc followed once: (n + roads) times as often as n can be halved, at most.
+pub(crate) fn distances(map: &RoadMap<'_>, d: usize, dist: &mut [u32])
+    requires here { ⌜ d < now map .n ⌝ }
+    requires dists { ⌜ length (now dist) ≡ now map .n ⌝ }
+    ensures { λ _. ⌜ FarRow (chart (now (map .entry))) d (now (dist .exit)) ⌝ }
+{
+    dist.fill(u32::MAX);
+    dist[d] = 0;
+    let mut queue = Queue::new(map.n);
+    queue.put(d, 0);
+    while let Some(u) = queue.pop() {
+        let arcs = map.arcs(u);
+        follow(arcs.places, arcs.costs, dist[u], dist, &mut queue);
     }
 }

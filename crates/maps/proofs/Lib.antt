@@ -1,3 +1,4 @@
-pub mod Arcs
+pub mod SoundArcs
 pub mod Costs
 pub mod RoadLists
+pub mod ArcParts
