@@ -1,3 +1,5 @@
 // Distances and next places: one row, all rows, and whether a map hangs together.
 mod dijkstra;
+mod nexts;
 mod queue;
+pub mod rows;
