@@ -18,14 +18,7 @@ use Rattle.maps.proofs.ArcParts.{facts, part-length, part-at, part-inside, part
 use Rattle.maps.proofs.Costs.{arc-cost, road-arc, arcs-rise, starts-most}
 use Rattle.distances.specs.Rows.{farNumber, hopNumber, FarRow}
 use Rattle.distances.specs.Steps.{Leads, FirstOn}
-
--- a number below that of no way is a distance
-number-at : (x : Far) (k : ℕ) → k ≡ farNumber x → k < 4294967295 → x ≡ At k
-number-at Never k e l = absurd (omega (arith, e))
-number-at (At c) k e l = ap At (sym e)
-
-at-number : (x : Far) (k c : ℕ) → k ≡ farNumber x → x ≡ At c → k ≡ c
-at-number x k c e h = e ∙ ap farNumber h
+use Rattle.distances.proofs.Numbers.{number-at, at-number}
 
 module _ (m : RoadMap) (d : ℕ) (dn : d < m .n) (dist : List ℕ) (f : FarRow (chart m) d dist) (a : ℕ) (an : a < m .n) (fits : getD dist a 0 < 2 ^ 32)
     (ps cs : List ℕ) (pe : ps ≡ arcPart (m .n) (m .starts .now) (m .places .now) a) (ce : cs ≡ arcPart (m .n) (m .starts .now) (m .costs .now) a) where
