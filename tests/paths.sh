@@ -1,0 +1,14 @@
+# Where things are, for the scripts of the repository; they set `root` and then read this file.
+# shellcheck shell=sh disable=SC2034
+
+# `rt` builds every program of crates.txt into this folder.
+programs=$root/target/bin
+
+# cargo builds these; both folders are ignored by git.
+oracle=$root/oracle/target/release/oracle
+end_to_end=$root/tests/target/release/tests
+
+# Builds the crate of plain Rust in the folder $1, without a network.
+build_rust() {
+    cargo build --release --offline --quiet --manifest-path "$root/$1/Cargo.toml"
+}
