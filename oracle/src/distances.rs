@@ -2,14 +2,15 @@
 
 use crate::map::Map;
 
-/// The distances of all pairs of places of a map, and its neighbours, from which next places follow.
+/// The distances of all pairs of places, and the neighbours, from which next places follow.
 pub struct Distances {
     to: Vec<Vec<Option<u32>>>,
     neighbours: Vec<Vec<(usize, u32)>>,
 }
 
 impl Distances {
-    /// Works out all distances. Cost: for each place, at most as many rounds over all roads as there are places.
+    /// Works out all distances: for each place, at most as many rounds over all roads as there are
+    /// places.
     pub fn of(map: &Map) -> Distances {
         Distances {
             to: (0..map.places).map(|place| row(map, place)).collect(),
@@ -22,7 +23,8 @@ impl Distances {
         self.to[to][from]
     }
 
-    /// The lowest neighbour of `from` on a way to `to` that costs their distance; none if they are the same.
+    /// The lowest neighbour of `from` on a way to `to` that costs their distance; none if they are
+    /// the same.
     pub fn next(&self, from: usize, to: usize) -> Option<usize> {
         let whole = self.distance(from, to)?;
         let is_on_a_way = |&&(place, cost): &&(usize, u32)| {

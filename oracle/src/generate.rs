@@ -63,32 +63,19 @@ impl Kind {
 /// Two places that a road joins, the lower one first.
 type Pair = (usize, usize);
 
+/// A point of the plane.
+type Point = (usize, usize);
+
 /// Makes a connected map of `places` places, at least 1, and of `roads` roads where its shape
 /// leaves the number open and that many are possible.
 pub fn generate(kind: Kind, seed: u64, places: usize, roads: usize) -> Map {
     let mut random = Random::new(seed);
     let most = MOST_ROADS.min(places * (places - 1) / 2);
     let wanted = roads.clamp(places - 1, most);
-    let points: Vec<Pair> = (0..places)
+    let points: Vec<Point> = (0..places)
         .map(|_| (random.below(1000), random.below(1000)))
         .collect();
-    let pairs = match kind {
-        Kind::Random | Kind::Heavy | Kind::Ties => {
-            fill(tree(places, &mut random), places, wanted, &mut random)
-        }
-        Kind::Sparse => close_pairs(&points, wanted),
-        Kind::Dense => fill(
-            clique(places, wanted, &mut random),
-            places,
-            wanted,
-            &mut random,
-        ),
-        Kind::Grid => grid(places),
-        Kind::Tree => tree(places, &mut random),
-        Kind::Path => path(places),
-        Kind::Ring => ring(places),
-        Kind::Star => (1..places).map(|leaf| (0, leaf)).collect(),
-    };
+    let pairs = shape(kind, &points, wanted, &mut random);
     let numbers = numbering(kind, places, &mut random);
     let mut roads: Vec<Road> = Vec::new();
     for (a, b) in pairs {
@@ -107,6 +94,23 @@ pub fn generate(kind: Kind, seed: u64, places: usize, roads: usize) -> Map {
     }
     roads.sort_unstable();
     Map { places, roads }
+}
+
+/// The pairs of places that roads join; there is a place for each point.
+fn shape(kind: Kind, points: &[Point], wanted: usize, random: &mut Random) -> BTreeSet<Pair> {
+    let places = points.len();
+    match kind {
+        Kind::Random | Kind::Heavy | Kind::Ties => {
+            fill(tree(places, random), places, wanted, random)
+        }
+        Kind::Sparse => close_pairs(points, wanted),
+        Kind::Dense => fill(clique(places, wanted, random), places, wanted, random),
+        Kind::Grid => grid(places),
+        Kind::Tree => tree(places, random),
+        Kind::Path => path(places),
+        Kind::Ring => ring(places),
+        Kind::Star => (1..places).map(|leaf| (0, leaf)).collect(),
+    }
 }
 
 /// The numbers that the places get in the end: of a grid they stay, else they are drawn, so that
@@ -184,7 +188,7 @@ fn fill(
 }
 
 /// Each point is joined to the closest one before it; then the closest pairs left over are joined.
-fn close_pairs(points: &[Pair], wanted: usize) -> BTreeSet<Pair> {
+fn close_pairs(points: &[Point], wanted: usize) -> BTreeSet<Pair> {
     let mut pairs = BTreeSet::new();
     let mut others = Vec::new();
     for b in 1..points.len() {
@@ -201,7 +205,7 @@ fn close_pairs(points: &[Pair], wanted: usize) -> BTreeSet<Pair> {
 }
 
 /// The square of the distance of two points in the plane.
-fn apart(a: Pair, b: Pair) -> usize {
+fn apart(a: Point, b: Point) -> usize {
     a.0.abs_diff(b.0).pow(2) + a.1.abs_diff(b.1).pow(2)
 }
 

@@ -6,6 +6,7 @@
 
 pub mod dijkstra;
 pub mod distances;
+pub mod faults;
 pub mod generate;
 pub mod map;
 pub mod programs;

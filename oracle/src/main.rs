@@ -1,9 +1,9 @@
 //! The oracle's command: `oracle plan|walk|change|rows [FILE…]` and `oracle generate KIND SEED PLACES ROADS`.
 
+use oracle::faults::Refusal;
 use oracle::generate::{generate, Kind};
 use oracle::map::{MOST_PLACES, MOST_ROADS};
 use oracle::programs::{named, repeated_rows};
-use oracle::reading::Refusal;
 use oracle::writing::write_map;
 use std::io::{self, Read, Write};
 use std::process::ExitCode;

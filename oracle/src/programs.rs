@@ -2,8 +2,9 @@
 
 use crate::dijkstra::{Dijkstra, NO_PLACE};
 use crate::distances::Distances;
+use crate::faults::Refusal;
 use crate::map::Map;
-use crate::reading::{read_map, Behind, Refusal};
+use crate::reading::{read_map, Behind};
 use std::fmt::Write;
 use std::hint::black_box;
 

@@ -3,7 +3,7 @@
 use crate::expected::Expected;
 use crate::program::Programs;
 use crate::report::Report;
-use crate::{changed, damage, parallel};
+use crate::{changed, damage, ends, parallel, roads};
 use oracle::generate::{generate, Kind, KINDS};
 use oracle::map::Map;
 use oracle::programs;
@@ -49,24 +49,24 @@ pub fn compare(built: &Programs, _root: &Path) -> Report {
 /// All documents of this group; the same at every run.
 fn all() -> Vec<Document> {
     let mut documents = whole();
-    documents.extend(changed::headers());
+    documents.extend(ends::headers());
     for (name, map) in small_maps() {
         documents.extend(changed::cut_everywhere(&name, &map));
         documents.extend(changed::changed_bytes(&name, &map));
         documents.extend(changed::changed_numbers(&name, &map));
-        documents.extend(changed::changed_roads(&name, &map));
+        documents.extend(roads::changed_roads(&name, &map));
     }
     for (name, map) in [
         ("tree of 4", generate(Kind::Tree, 6, 4, 0)),
         ("ties of 5", generate(Kind::Ties, 6, 5, 6)),
     ] {
         documents.extend(damage::damaged_twice(name, &map));
-        documents.extend(changed::followed(name, &map));
+        documents.extend(ends::followed(name, &map));
     }
     for (name, map) in larger_maps() {
         documents.extend(damage::damaged_once(&name, &map));
-        documents.extend(changed::lonely_places(&name, &map));
-        documents.extend(changed::halves(&name, &map));
+        documents.extend(roads::lonely_places(&name, &map));
+        documents.extend(roads::halves(&name, &map));
     }
     documents.extend(random_changes());
     documents

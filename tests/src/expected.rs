@@ -2,7 +2,7 @@
 
 use crate::program::Answer;
 use crate::report::Difference;
-use oracle::reading::Refusal;
+use oracle::faults::Refusal;
 
 /// What is expected of a program.
 pub enum Expected {

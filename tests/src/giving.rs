@@ -25,6 +25,14 @@ impl Files {
         self.folder.join(name).display().to_string()
     }
 
+    /// The word for a file of that name on the command line; `-` stays as it is.
+    fn word(&self, name: &str) -> String {
+        match name {
+            "-" => "-".to_string(),
+            _ => self.path(name),
+        }
+    }
+
     fn write(&self, name: &str, bytes: &[u8]) -> String {
         fs::write(self.folder.join(name), bytes).expect("a temporary file can be written");
         self.path(name)
@@ -45,6 +53,7 @@ pub fn compare(built: &Programs, _root: &Path) -> Report {
     for (name, _) in programs::PROGRAMS {
         found.push(split_in_two(built, &files, name));
         found.push(mixed(built, &files, name));
+        found.push(byte_by_byte(built, &files, name));
         found.push(in_pieces(built, name));
         found.push(unreadable(built, &files, name));
     }
@@ -81,47 +90,43 @@ fn split_in_two(built: &Programs, files: &Files, name: &str) -> Vec<Option<Diffe
     found
 }
 
-/// One file, many files, `-` alone, twice and among files, and the largest map as a file.
+/// One file, several files, `-` alone, twice and among files, and the largest map.
 fn mixed(built: &Programs, files: &Files, name: &str) -> Vec<Option<Difference>> {
-    let bytes = write_map(&generate(Kind::Grid, 1, 9, 0));
-    let large = write_map(&generate(Kind::Random, 1, 512, 4096));
-    let (whole, empty) = (files.write("whole", &bytes), files.write("empty", b""));
-    let (first, last) = (
-        files.write("first", &bytes[..7]),
-        files.write("last", &bytes[20..]),
-    );
-    let single: Vec<String> = bytes
-        .iter()
-        .enumerate()
-        .map(|(at, byte)| files.write(&format!("byte{at}"), &[*byte]))
-        .collect();
-    let dash = "-".to_string();
-    let ways: [(Vec<String>, &[u8], &[u8]); 11] = [
-        (vec![whole.clone()], b"not looked at", &bytes),
-        (vec![dash.clone()], &bytes, &bytes),
-        (vec![], &bytes, &bytes),
-        (
-            vec![first.clone(), dash.clone(), last.clone()],
-            &bytes[7..20],
-            &bytes,
-        ),
-        (vec![dash.clone(), dash.clone()], &bytes, &bytes),
-        (
-            vec![empty.clone(), whole.clone(), empty.clone()],
-            b"",
-            &bytes,
-        ),
-        (single, b"", &bytes),
-        (vec![empty], &bytes, b""),
-        (vec![], b"", b""),
-        (vec![files.write("large", &large)], b"", &large),
-        (vec![dash], &large, &large),
+    let bytes: &[u8] = &write_map(&generate(Kind::Grid, 1, 9, 0));
+    let large: &[u8] = &write_map(&generate(Kind::Random, 1, 512, 4096));
+    files.write("whole", bytes);
+    files.write("empty", b"");
+    files.write("first", &bytes[..7]);
+    files.write("last", &bytes[20..]);
+    files.write("large", large);
+    // The words, standard input, and the bytes that the program is given by both.
+    let ways: [(&[&str], &[u8], &[u8]); 10] = [
+        (&["whole"], b"not looked at", bytes),
+        (&["-"], bytes, bytes),
+        (&[], bytes, bytes),
+        (&["first", "-", "last"], &bytes[7..20], bytes),
+        (&["-", "-"], bytes, bytes),
+        (&["empty", "whole", "empty"], b"", bytes),
+        (&["empty"], bytes, b""),
+        (&[], b"", b""),
+        (&["large"], b"", large),
+        (&["-"], large, large),
     ];
-    let compare_one = |(words, input, given): (Vec<String>, &[u8], &[u8])| {
+    let compare_one = |(words, input, given): (&[&str], &[u8], &[u8])| {
+        let words: Vec<String> = words.iter().map(|word| files.word(word)).collect();
         let title = format!("{name} {}", words.join(" "));
         expected(name, given).compare(built.run(name, &words, input), title, given)
     };
     ways.map(compare_one).into()
+}
+
+/// A file for each byte of a map.
+fn byte_by_byte(built: &Programs, files: &Files, name: &str) -> Vec<Option<Difference>> {
+    let bytes = write_map(&generate(Kind::Star, 1, 6, 0));
+    let write_one = |(at, byte)| files.write(&format!("byte{at}"), &[byte]);
+    let words: Vec<String> = bytes.iter().copied().enumerate().map(write_one).collect();
+    let answer = built.run(name, &words, b"");
+    vec![expected(name, &bytes).compare(answer, format!("{name}: a file for each byte"), &bytes)]
 }
 
 /// Standard input that comes in pieces, so that one read doesn't bring all.

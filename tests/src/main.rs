@@ -4,12 +4,14 @@ mod changed;
 mod damage;
 mod documents;
 mod draft;
+mod ends;
 mod expected;
 mod giving;
 mod golden;
 mod parallel;
 mod program;
 mod report;
+mod roads;
 mod rows;
 
 use program::Programs;

@@ -46,7 +46,7 @@ impl Programs {
                     if index > 0 {
                         thread::sleep(Duration::from_millis(5));
                     }
-                    // A program may refuse before it has read all, and end; that is no failure here.
+                    // A program may refuse before it has read all: that is no failure here.
                     if stdin.write_all(piece).is_err() {
                         break;
                     }

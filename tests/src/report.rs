@@ -71,7 +71,7 @@ impl fmt::Display for Report {
     }
 }
 
-/// A short input in hexadecimal; a long one is saved, and only its beginning and its file are shown.
+/// A short input in hexadecimal; a long one is saved, and its beginning and its file are shown.
 fn shown(input: &[u8], index: usize) -> String {
     let hex: Vec<String> = input
         .iter()

@@ -53,7 +53,7 @@ pub fn examples(root: &Path) -> Vec<(String, Vec<u8>)> {
     files.iter().map(read).collect()
 }
 
-/// A path and a ring of as many places as there can be, at the highest cost: the greatest distances.
+/// A path and a ring of as many places as can be, at the highest cost: the greatest distances.
 fn longest_ways() -> Vec<(String, Vec<u8>)> {
     let mut roads: Vec<Road> = (0..511)
         .map(|place| Road {
