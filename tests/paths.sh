@@ -4,6 +4,9 @@
 # `rt` builds every program of crates.txt into this folder.
 programs=$root/target/bin
 
+# Where rustup has put cargo, in case nobody told the PATH.
+command -v cargo >/dev/null || PATH=$PATH:${HOME-}/.cargo/bin
+
 # cargo builds these; both folders are ignored by git.
 oracle=$root/oracle/target/release/oracle
 end_to_end=$root/tests/target/release/tests

@@ -37,6 +37,10 @@ fn main() -> ExitCode {
         return ExitCode::FAILURE;
     };
     let programs = Programs::in_folder(folder);
+    if let Some(name) = programs.missing() {
+        eprintln!("tests: there is no program {name} in {folder}");
+        return ExitCode::FAILURE;
+    }
     let root = Path::new(env!("CARGO_MANIFEST_DIR"))
         .parent()
         .expect("tests/ is in the repository");

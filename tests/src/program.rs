@@ -1,5 +1,6 @@
 //! Running a built program on words and standard input.
 
+use oracle::programs::PROGRAMS;
 use std::io::{Result, Write};
 use std::path::PathBuf;
 use std::process::{Command, Stdio};
@@ -23,6 +24,12 @@ impl Programs {
         Programs {
             folder: PathBuf::from(folder),
         }
+    }
+
+    /// A program that isn't in the folder, if there is one.
+    pub fn missing(&self) -> Option<&'static str> {
+        let mut names = PROGRAMS.iter().map(|&(name, _)| name);
+        names.find(|name| !self.folder.join(name).is_file())
     }
 
     /// Runs the program of that name with `words` as arguments and `input` as standard input.
