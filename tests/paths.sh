@@ -1,5 +1,5 @@
 # Where things are, for the scripts of the repository; they set `root` and then read this file.
-# shellcheck shell=sh disable=SC2034
+# shellcheck shell=sh disable=SC2034,SC2154
 
 # `rt` builds every program of crates.txt into this folder.
 programs=$root/target/bin
