@@ -84,24 +84,42 @@ impl Expected {
     }
 }
 
-/// The first line in which two texts differ, as it is in each.
+/// Two texts from the first word on in which they differ, to the end of that line.
 fn first_difference(theirs: &str, ours: &str) -> (String, String) {
     let mut their_lines = theirs.split_inclusive('\n');
     let mut our_lines = ours.split_inclusive('\n');
-    for number in 1.. {
+    let mut line = 0;
+    loop {
+        line += 1;
         let (their_line, our_line) = (their_lines.next(), our_lines.next());
         if their_line != our_line || their_line.is_none() {
-            let shown =
-                |line: Option<&str>| format!("line {number}: {}", short(line.unwrap_or("")));
+            let (their_line, our_line) = (their_line.unwrap_or(""), our_line.unwrap_or(""));
+            let word = same_words(their_line, our_line);
+            let shown = |text| {
+                format!(
+                    "line {line}, from word {word}: {}",
+                    short(&from_word(text, word))
+                )
+            };
             return (shown(their_line), shown(our_line));
         }
     }
-    unreachable!("texts end")
+}
+
+/// With how many words two lines begin alike.
+fn same_words(one: &str, other: &str) -> usize {
+    let pairs = one.split(' ').zip(other.split(' '));
+    pairs.take_while(|(a, b)| a == b).count()
+}
+
+/// A line without so many words at its beginning.
+fn from_word(line: &str, word: usize) -> String {
+    line.split(' ').skip(word).collect::<Vec<_>>().join(" ")
 }
 
 /// A text that fits into a report.
 fn short(text: &str) -> String {
-    let beginning: String = text.chars().take(300).collect();
+    let beginning: String = text.chars().take(200).collect();
     let more = if beginning.len() < text.len() {
         " …"
     } else {
