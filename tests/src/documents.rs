@@ -9,6 +9,7 @@ use oracle::map::Map;
 use oracle::programs;
 use oracle::random::Random;
 use oracle::writing::write_map;
+use std::collections::HashSet;
 use std::path::Path;
 
 /// A document and how it was made.
@@ -46,7 +47,7 @@ pub fn compare(built: &Programs, _root: &Path) -> Report {
     }))
 }
 
-/// All documents of this group; the same at every run.
+/// All documents of this group, each once; the same at every run.
 fn all() -> Vec<Document> {
     let mut documents = whole();
     documents.extend(ends::headers());
@@ -69,6 +70,9 @@ fn all() -> Vec<Document> {
         documents.extend(roads::halves(&name, &map));
     }
     documents.extend(random_changes());
+    // Different damages can come to the same bytes; those are given once.
+    let mut seen = HashSet::new();
+    documents.retain(|document| seen.insert(document.bytes.clone()));
     documents
 }
 
