@@ -1,3 +1,6 @@
 pub mod Arcs
 pub mod Costs
 pub mod RoadLists
+pub mod Arcing
+pub mod Counting
+pub mod Filled

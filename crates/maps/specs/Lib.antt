@@ -1,3 +1,4 @@
 pub mod Faults
 pub mod Roads
 pub mod Arcs
+pub mod Laying
