@@ -4,3 +4,5 @@ pub mod RoadLists
 pub mod Arcing
 pub mod Counting
 pub mod Filled
+pub mod RoadArcs
+pub mod Laid
