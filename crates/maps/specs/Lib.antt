@@ -2,3 +2,4 @@ pub mod Faults
 pub mod Roads
 pub mod Arcs
 pub mod Laying
+pub mod Laid

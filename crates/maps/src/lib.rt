@@ -1,6 +1,8 @@
 // Maps: faults and their numbers, roads, and the map in memory.
+pub mod buf;
 pub mod faults;
 pub mod kinds;
-pub mod laying;
+mod laying;
+pub mod making;
 pub mod map;
 pub mod roads;
