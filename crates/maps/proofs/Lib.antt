@@ -6,3 +6,4 @@ pub mod Counting
 pub mod Filled
 pub mod RoadArcs
 pub mod Laid
+pub mod Searches

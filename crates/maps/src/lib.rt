@@ -5,4 +5,5 @@ pub mod kinds;
 mod laying;
 pub mod making;
 pub mod map;
+pub mod reading;
 pub mod roads;
