@@ -7,3 +7,5 @@ pub mod making;
 pub mod map;
 pub mod reading;
 pub mod roads;
+#[cfg(test)]
+mod tests;

@@ -4,6 +4,7 @@ ghost use Prim.Native.Nat.{ℕ};
 ghost use Rattle.std.specs.Of.Vec.{vec-items};
 ghost use Rattle.maps.specs.Arcs.{mapIn, Meaning};
 ghost use Rattle.maps.specs.Laid.{Laid};
+ghost use Rattle.maps.specs.Roads.{costIn};
 use std::alloc::Global;
 use super::buf::RoadMapBuf;
 use super::faults::FaultFromAlloc;
@@ -52,6 +53,7 @@ impl RoadMapBuf {
         ensures starts { λ r. ⌜ now (r .starts) ≡ vec-items (now (self .entry) .starts) ⌝ }
         ensures places { λ r. ⌜ now (r .places) ≡ vec-items (now (self .entry) .places) ⌝ }
         ensures costs { λ r. ⌜ now (r .costs) ≡ vec-items (now (self .entry) .costs) ⌝ }
+        ensures same { λ r. ⌜ ((a e : ℕ) → mapIn (r .n) (now (r .starts)) (now (r .places)) (now (r .costs)) .cost a e ≡ costIn (vec-items (now (self .entry) .roads)) a e) ⌝ }
         ensures means { λ r. ⌜ Meaning (mapIn (r .n) (now (r .starts)) (now (r .places)) (now (r .costs))) ⌝ }
     {
         RoadMap { n: self.n as usize, starts: &self.starts, places: &self.places, costs: &self.costs }
