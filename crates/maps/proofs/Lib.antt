@@ -2,3 +2,9 @@ pub mod SoundArcs
 pub mod Costs
 pub mod RoadLists
 pub mod ArcParts
+pub mod Arcing
+pub mod Counting
+pub mod Filled
+pub mod RoadArcs
+pub mod Laid
+pub mod Searches

@@ -13,7 +13,7 @@ use Rattle.std.specs.declared.option.Option.the-variants.{Some, None}
 use Rattle.maps.specs.declared.kinds.Fault.{Fault}
 use Rattle.maps.specs.declared.kinds.Fault.the-variants.{Range, Order, Cost}
 use Rattle.maps.specs.declared.kinds.Road.{Road}
-use Rattle.maps.specs.Roads.{rises, roadFault, orElse, roadsFault, sizeFault, mapFault, Each, SoundRoad, SoundRoads}
+use Rattle.maps.specs.Roads.{rises, roadFault, orElse, roadsFault, sizeFault, mapFault, noFault, faultless, Each, SoundRoad, SoundRoads}
 
 -- ---- one road of the list
 pub step-bad : (n : ℕ) (last : Option Road) (rs : List Road) (i : ℕ) (d : Road) (f : Fault) → i < length rs → roadFault n last (getD rs i d) ≡ Some f → roadsFault n last (drop i rs) ≡ Some f
@@ -87,3 +87,14 @@ sound-map n rs v =
 -- a size without a fault leaves it to the roads
 pub size-passes : (n : ℕ) (rs : List Road) → sizeFault n (length rs) ≡ None → mapFault n rs ≡ roadsFault n None rs
 size-passes n rs e = ap (λ x. orElse x (roadsFault n None rs)) e
+
+-- ---- the test that there is none
+none-passes : (o : Option Fault) → noFault o ≡ true → o ≡ None
+none-passes None e = refl
+none-passes (Some f) e = let z : _≡_ {A = ℕ} 0 1 = cc in absurd (omega arith)
+
+pub faultless-none : (n : ℕ) (rs : List Road) → faultless n rs ≡ true → mapFault n rs ≡ None
+faultless-none n rs e = none-passes (mapFault n rs) e
+
+pub none-faultless : (n : ℕ) (rs : List Road) → mapFault n rs ≡ None → faultless n rs ≡ true
+none-faultless n rs e = ap noFault e

@@ -5,6 +5,7 @@
 --   roadFault    what is wrong with a road of a map of n places after another, the lowest number first
 --   roadsFault   the first fault of a list of roads
 --   mapFault     what is wrong with a number of places and a list of roads
+--   faultless    nothing is
 --   costIn       the cost of the road between two places, 0 where there is none
 --   mapOf        the abstract map of n places and these roads
 use mathlib.Core.Path.{_≡_}
@@ -48,6 +49,13 @@ sizeFault n roads = cond (eqb n 0 || ltb 512 n || ltb 4096 roads) (Some Range) N
 
 abbrev pub mapFault : ℕ → List Road → Option Fault
 mapFault n roads = orElse (sizeFault n (length roads)) (roadsFault n None roads)
+
+abbrev pub noFault : Option Fault → Bool
+noFault None = true
+noFault (Some f) = false
+
+abbrev pub faultless : ℕ → List Road → Bool
+faultless n roads = noFault (mapFault n roads)
 
 abbrev pub joins : Road → ℕ → ℕ → Bool
 joins r a e = (eqb (r .from) a && eqb (r .to) e) || (eqb (r .from) e && eqb (r .to) a)

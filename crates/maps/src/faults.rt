@@ -1,6 +1,8 @@
-// The number by which a fault is told.
+// The number by which a fault is told; and want of memory as a fault.
 ghost use mathlib.Core.Path.{_≡_};
 ghost use Rattle.maps.specs.Faults.{numberOf};
+ghost use Rattle.maps.specs.declared.kinds.Fault.the-variants.{Memory};
+use std::alloc::AllocError;
 use super::kinds::Fault;
 
 impl Fault {
@@ -19,5 +21,13 @@ impl Fault {
             Fault::Same => 8,
             Fault::Memory => 0,
         }
+    }
+}
+
+pub impl From<AllocError> for Fault as FaultFromAlloc {
+    ghost converts = { λ _ r. r ≡ Memory };
+
+    fn from(_e: AllocError) -> Fault {
+        Fault::Memory
     }
 }

@@ -30,3 +30,11 @@ pub struct Road {
     pub to: u16,
     pub cost: u16,
 }
+
+/// One direction of a road: from the place at which it stands to another.
+#[derive(Clone, Copy)]
+pub struct Arc {
+    pub at: u16,
+    pub to: u16,
+    pub cost: u16,
+}
