@@ -1,0 +1,2 @@
+// Cards: the place, its landmark, and a hint.
+pub mod kinds;

@@ -1,0 +1,2 @@
+// Posts: lines, and the post at a place.
+pub mod kinds;

@@ -1,0 +1,2 @@
+// Walking: a step, a walk, and the promise of the whole.
+pub mod kinds;
