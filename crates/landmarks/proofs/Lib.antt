@@ -1,0 +1,3 @@
+pub mod Closer
+pub mod Closest
+pub mod Near
