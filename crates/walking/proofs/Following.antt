@@ -1,0 +1,45 @@
+-- Following a rule place by place up to v: it is a way of the map, and every journey with roads enough ends there. Assumes nothing.
+use mathlib.Core.Path.{_≡_, refl, sym, ap, _∙_}
+use mathlib.Core.Bool.{Bool, true, false, cond}
+use Prim.Native.Nat.{ℕ, zero, suc, _+_, _<_, _≤_}
+use native.Mathlib.Omega.{arith}
+use lib.Dec.{eqb, ltb}
+use Rattle.std.proofs.shelf.Tests.{eq-eqb, ne-eqb, lt-ltb}
+use Rattle.ways.specs.Map.{Map, Hop, Nowhere, To}
+use Rattle.ways.specs.Ways.{Route, arrived, road}
+use Rattle.walking.specs.Walks.{onward}
+use Rattle.walking.specs.General.{Rule, journey}
+use Rattle.walking.specs.declared.kinds.End.{End}
+use Rattle.walking.specs.declared.kinds.End.the-variants.{Arrived, Stuck, Worn}
+
+-- Follow z rule v u c k: the rule leads from u to v by k roads that cost c.
+pub data Follow (z : Map) (rule : Rule) (v : ℕ) : ℕ → ℕ → ℕ → Type 0 where
+  there : v < z .n → Follow z rule v v 0 0
+  on : (u e c k : ℕ) → u < z .n → (u ≡ v → ⊥) → rule u ≡ To e → 0 < z .cost u e → Follow z rule v e c k → Follow z rule v u (z .cost u e + c) (1 + k)
+
+pub follow-route : (z : Map) (rule : Rule) (v u c k : ℕ) → Follow z rule v u c k → Route z v u c k
+follow-route z rule v u c k (there vn) = arrived vn
+follow-route z rule v u c k (on _ e q m un ne g pos f) = road u e q m un pos (follow-route z rule v e q m f)
+
+-- a rule that says the same leads the same way
+pub follow-like : (z : Map) (rule rule′ : Rule) (v u c k : ℕ) → ((a : ℕ) → a < z .n → (a ≡ v → ⊥) → rule′ a ≡ rule a) → Follow z rule v u c k → Follow z rule′ v u c k
+follow-like z rule rule′ v u c k same (there vn) = there vn
+follow-like z rule rule′ v u c k same (on _ e q m un ne g pos f) = on u e q m un ne (same u un ne ∙ g) pos (follow-like z rule rule′ v e q m same f)
+
+module _ (z : Map) (rule : Rule) (v : ℕ) where
+  journey-stops : (j u cost : ℕ) → u ≡ v → journey (suc j) z rule v cost u ≡ Arrived cost
+  unfolding journey
+  journey-stops j u cost e = ap (λ t. cond t (Arrived cost) (onward (journey j z rule v) z cost u (rule u))) (eq-eqb u v e)
+
+  journey-goes : (j u e cost : ℕ) → (u ≡ v → ⊥) → rule u ≡ To e → 0 < z .cost u e → journey (suc j) z rule v cost u ≡ journey j z rule v (cost + z .cost u e) e
+  unfolding journey
+  journey-goes j u e cost ne g pos =
+      ap (λ t. cond t (Arrived cost) (onward (journey j z rule v) z cost u (rule u))) (ne-eqb u v ne)
+      ∙ ap (onward (journey j z rule v) z cost u) g
+      ∙ ap (λ t. cond t (journey j z rule v (cost + z .cost u e) e) (Stuck u)) (lt-ltb 0 (z .cost u e) pos)
+
+pub follow-ends : (z : Map) (rule : Rule) (v u c k : ℕ) → Follow z rule v u c k → (j cost : ℕ) → k < j → journey j z rule v cost u ≡ Arrived (cost + c)
+follow-ends z rule v u c k f zero cost l = absurd (omega arith)
+follow-ends z rule v u c k (there vn) (suc j) cost l = journey-stops z rule v j v cost refl ∙ ap Arrived (omega arith)
+follow-ends z rule v u c k (on _ e q m un ne g pos f) (suc j) cost l =
+    journey-goes z rule v j u e cost ne g pos ∙ follow-ends z rule v e q m f j (cost + z .cost u e) (omega arith) ∙ ap Arrived (omega arith)
