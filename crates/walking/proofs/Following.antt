@@ -8,14 +8,9 @@ use Rattle.std.proofs.shelf.Tests.{eq-eqb, ne-eqb, lt-ltb}
 use Rattle.ways.specs.Map.{Map, Hop, Nowhere, To}
 use Rattle.ways.specs.Ways.{Route, arrived, road}
 use Rattle.walking.specs.Walks.{onward}
-use Rattle.walking.specs.General.{Rule, journey}
+use Rattle.walking.specs.General.{Rule, journey, Follow, there, on, Walked}
 use Rattle.walking.specs.declared.kinds.End.{End}
 use Rattle.walking.specs.declared.kinds.End.the-variants.{Arrived, Stuck, Worn}
-
--- Follow z rule v u c k: the rule leads from u to v by k roads that cost c.
-pub data Follow (z : Map) (rule : Rule) (v : ℕ) : ℕ → ℕ → ℕ → Type 0 where
-  there : v < z .n → Follow z rule v v 0 0
-  on : (u e c k : ℕ) → u < z .n → (u ≡ v → ⊥) → rule u ≡ To e → 0 < z .cost u e → Follow z rule v e c k → Follow z rule v u (z .cost u e + c) (1 + k)
 
 pub follow-route : (z : Map) (rule : Rule) (v u c k : ℕ) → Follow z rule v u c k → Route z v u c k
 follow-route z rule v u c k (there vn) = arrived vn
@@ -43,3 +38,6 @@ follow-ends z rule v u c k f zero cost l = absurd (omega arith)
 follow-ends z rule v u c k (there vn) (suc j) cost l = journey-stops z rule v j v cost refl ∙ ap Arrived (omega arith)
 follow-ends z rule v u c k (on _ e q m un ne g pos f) (suc j) cost l =
     journey-goes z rule v j u e cost ne g pos ∙ follow-ends z rule v e q m f j (cost + z .cost u e) (omega arith) ∙ ap Arrived (omega arith)
+
+pub follow-walked : (z : Map) (rule : Rule) (v u c k : ℕ) → k < z .n → Follow z rule v u c k → Walked z rule v u c k
+follow-walked z rule v u c k lt f = record { follows = f; way = follow-route z rule v u c k f; few = lt; ends = follow-ends z rule v u c k f }

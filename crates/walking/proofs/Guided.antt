@@ -21,8 +21,8 @@ use Rattle.ways.proofs.Counting.{count-less, count-short}
 use Rattle.landmarks.specs.Landmarks.{closer}
 use Rattle.landmarks.proofs.Closer.{closer-self, closer-trans}
 use Rattle.landmarks.proofs.Near.{hop-closer}
-use Rattle.walking.specs.General.{Rule, ruleOf, Guide, Walked, GuidedWalk, Guided-arrives, Wide, Guided-thrice, Wide-starts}
-use Rattle.walking.proofs.Following.{Follow, there, on, follow-route, follow-ends}
+use Rattle.walking.specs.General.{Rule, ruleOf, Guide, Walked, GuidedWalk, Guided-arrives, Wide, Guided-thrice, Wide-starts, Follow, there, on}
+use Rattle.walking.proofs.Following.{follow-walked}
 
 module _ (z : Map) (known : ℕ → Bool) (mark v : ℕ) (joined : Joined z) (g : Guide z known mark v) where
   abbrev rule : Rule
@@ -109,14 +109,11 @@ module _ (z : Map) (known : ℕ → Bool) (mark v : ℕ) (joined : Joined z) (g 
                         on u (w .0) (i .0) (i .1) un ne (rule-first u out off ∙ w .1) (c .neighbour) (i .4))) ] ]
 
   -- ---- from anywhere
-  walked : (u c k : ℕ) → k < z .n → Follow z rule v u c k → Walked z rule v u c k
-  walked u c k lt f = record { way = follow-route z rule v u c k f; few = lt; ends = follow-ends z rule v u c k f }
-
   from-last : (u : ℕ) → u < z .n → (known u ≡ true) ⊎ (u ≡ mark) → GuidedWalk z known mark v u
   from-last u un good =
       let d = joined v u (g .place) un in
       let i = last-leg (z .n) u (d .0) un (d .1) good (count-short (z .n) u (ahead-last u) un (last-self u)) in
-      record { cost = d .0; roads = i .0; walked = walked u (d .0) (i .0) (i .1) (i .2);
+      record { cost = d .0; roads = i .0; walked = follow-walked z rule v u (d .0) (i .0) (i .1) (i .2);
                by-landmark = λ p q h hq. let t = triangle z u mark v p q un (g .landmark) (g .place) h hq in let s : t .0 ≡ d .0 = at-same (t .0) (d .0) (sym (t .1) ∙ d .1) in omega (arith, t .2);
                cheapest = λ p h _. at-same (d .0) p (sym (d .1) ∙ h) }
 
@@ -125,14 +122,14 @@ module _ (z : Map) (known : ℕ → Bool) (mark v : ℕ) (joined : Joined z) (g 
       let d = joined mark u (g .landmark) un in
       let e = joined v mark (g .place) (g .landmark) in
       let i = first-leg (z .n) u (d .0) (e .0) un (d .1) (e .1) out off (count-short (z .n) u (ahead-first u) un (first-self u out)) in
-      let r = follow-route z rule v u (i .0) (i .1) (i .4) in
-      record { cost = i .0; roads = i .1; walked = walked u (i .0) (i .1) (i .2) (i .4);
-               by-landmark = λ p q h hq. let s = at-same (d .0) p (sym (d .1) ∙ h) in let t = at-same (e .0) q (sym (e .1) ∙ hq) in omega (arith, i .3, s, t);
+      let t = follow-walked z rule v u (i .0) (i .1) (i .2) (i .4) in
+      record { cost = i .0; roads = i .1; walked = t;
+               by-landmark = λ p q h hq. let s = at-same (d .0) p (sym (d .1) ∙ h) in let y = at-same (e .0) q (sym (e .1) ∙ hq) in omega (arith, i .3, s, y);
                cheapest = λ p h why. elim why
-                 [ inl t ↦ absurd (both-ways (known u) out t)
+                 [ inl k ↦ absurd (both-ways (known u) out k)
                  | inr m ↦ (let s : d .0 ≡ p = at-same (d .0) p (sym (d .1) ∙ ap (λ x. far z x u) m ∙ h) in
-                            let t : e .0 ≡ 0 = at-same (e .0) 0 (sym (e .1) ∙ ap (far z v) m ∙ certified z v (g .place) .here) in
-                            let n = least-ways z v u (g .place) un .no-less (i .0) (i .1) r in
+                            let y : e .0 ≡ 0 = at-same (e .0) 0 (sym (e .1) ∙ ap (far z v) m ∙ certified z v (g .place) .here) in
+                            let n = least-ways z v u (g .place) un .no-less (i .0) (i .1) (t .way) in
                             let o : n .0 ≡ p = at-same (n .0) p (sym (n .1) ∙ h) in
                             omega (arith, i .3, n .2)) ] }
 

@@ -1,2 +1,4 @@
 pub mod Following
 pub mod Guided
+pub mod Finding
+pub mod Promised

@@ -5,6 +5,7 @@
 --   journey   how a walk to v by a rule ends that may go so many roads more, from u, after roads of some cost
 --   ruleOf    the rule of a set of places and a landmark: from the places of the set towards v, and from the landmark too; from elsewhere
 --             towards the landmark
+--   Follow    a rule leads from u to v by so many roads that cost so much
 --   Guide     what the set and the landmark need so that one arrives
 --   Walked    a walk by a rule from u that ends at v
 use mathlib.Core.Path.{_≡_}
@@ -28,6 +29,10 @@ journey (suc k) z rule v cost u = cond (eqb u v) (Arrived cost) (onward (journey
 abbrev pub ruleOf : Map → (ℕ → Bool) → ℕ → ℕ → Rule
 ruleOf z known mark v u = cond (known u) (hop z v u) (cond (eqb u mark) (hop z v mark) (hop z mark u))
 
+pub data Follow (z : Map) (rule : Rule) (v : ℕ) : ℕ → ℕ → ℕ → Type 0 where
+  there : v < z .n → Follow z rule v v 0 0
+  on : (u e c k : ℕ) → u < z .n → (u ≡ v → ⊥) → rule u ≡ To e → 0 < z .cost u e → Follow z rule v e c k → Follow z rule v u (z .cost u e + c) (1 + k)
+
 -- Once one is in the set one stays there all the way to v, and one step on from the landmark one is in it.
 pub record Guide (z : Map) (known : ℕ → Bool) (mark v : ℕ) : Type 0 where
   pub place : v < z .n
@@ -36,8 +41,9 @@ pub record Guide (z : Map) (known : ℕ → Bool) (mark v : ℕ) : Type 0 where
   pub stays : (u w : ℕ) → u < z .n → known u ≡ true → hop z v u ≡ To w → known w ≡ true
   pub starts : (w : ℕ) → hop z v mark ≡ To w → known w ≡ true
 
--- A walk of k roads that cost c: a way of the map, and no place comes twice; whoever may go more than k roads arrives.
+-- A walk of k roads that cost c: it follows the rule, it is a way of the map, and no place comes twice; whoever may go more than k roads arrives.
 pub record Walked (z : Map) (rule : Rule) (v u c k : ℕ) : Type 0 where
+  pub follows : Follow z rule v u c k
   pub way : Route z v u c k
   pub few : k < z .n
   pub ends : (j cost : ℕ) → k < j → journey j z rule v cost u ≡ Arrived (cost + c)

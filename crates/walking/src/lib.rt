@@ -1,2 +1,3 @@
 // Walking: a step, a walk, and the promise of the whole.
 pub mod kinds;
+pub mod laws;

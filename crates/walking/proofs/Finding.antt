@@ -1,0 +1,56 @@
+-- A place is found on the post of a map just where it has a line there. Assumes nothing.
+use mathlib.Core.Path.{_≡_, refl, sym, ap, _∙_}
+use mathlib.Core.Bool.{Bool, true, false, cond}
+use mathlib.Core.List.{List, [], _∷_}
+use mathlib.Core.Logic.{_⊎_, inl, inr}
+use Prim.Native.Nat.{ℕ, zero, suc, _+_, _<_, _≤_}
+use native.Mathlib.Omega.{arith}
+use lib.Dec.{eqb}
+use Rattle.std.proofs.shelf.Tests.{cases-bool, cases-eq, both-ways, eq-eqb, ne-eqb, cond-true, cond-false}
+use Rattle.std.specs.declared.option.Option.{Option}
+use Rattle.std.specs.declared.option.Option.the-variants.{Some, None}
+use Rattle.ways.specs.Map.{Map}
+use Rattle.landmarks.specs.Landmarks.{Marks, onPost}
+use Rattle.posts.specs.declared.kinds.Line.{Line}
+use Rattle.posts.specs.Posts.{lineOf, linesOf, postOf, findIn}
+
+module _ (z : Map) (l : Marks) (u v : ℕ) where
+  -- past a place that isn't v
+  find-past : (a k : ℕ) → (a ≡ v → ⊥) → findIn v (linesOf z l u a (suc k)) ≡ findIn v (linesOf z l u (a + 1) k)
+  unfolding linesOf
+  find-past a k ne = elim (cases-bool (onPost z l u a))
+      [ inl t ↦ ap (findIn v) (cond-true (onPost z l u a) (lineOf z l u a ∷ linesOf z l u (a + 1) k) (linesOf z l u (a + 1) k) t)
+          ∙ cond-false (eqb a v) (Some (lineOf z l u a)) (findIn v (linesOf z l u (a + 1) k)) (ne-eqb a v ne)
+      | inr t ↦ ap (findIn v) (cond-false (onPost z l u a) (lineOf z l u a ∷ linesOf z l u (a + 1) k) (linesOf z l u (a + 1) k) t) ]
+
+  find-here : (k : ℕ) → onPost z l u v ≡ true → findIn v (linesOf z l u v (suc k)) ≡ Some (lineOf z l u v)
+  unfolding linesOf
+  find-here k t =
+      ap (findIn v) (cond-true (onPost z l u v) (lineOf z l u v ∷ linesOf z l u (v + 1) k) (linesOf z l u (v + 1) k) t)
+      ∙ cond-true (eqb v v) (Some (lineOf z l u v)) (findIn v (linesOf z l u (v + 1) k)) (eq-eqb v v refl)
+
+  find-skip : (k : ℕ) → onPost z l u v ≡ false → findIn v (linesOf z l u v (suc k)) ≡ findIn v (linesOf z l u (v + 1) k)
+  unfolding linesOf
+  find-skip k t = ap (findIn v) (cond-false (onPost z l u v) (lineOf z l u v ∷ linesOf z l u (v + 1) k) (linesOf z l u (v + 1) k) t)
+
+  find-nil : (a : ℕ) → findIn v (linesOf z l u a 0) ≡ None
+  unfolding linesOf
+  find-nil a = refl
+
+  lines-some : onPost z l u v ≡ true → (k a : ℕ) → a ≤ v → v < a + k → findIn v (linesOf z l u a k) ≡ Some (lineOf z l u v)
+  lines-some t zero a lo hi = absurd (omega arith)
+  lines-some t (suc k) a lo hi = elim (cases-eq a v)
+      [ inl e ↦ ap (λ x. findIn v (linesOf z l u x (suc k))) e ∙ find-here k t
+      | inr ne ↦ find-past a k ne ∙ lines-some t k (a + 1) (omega arith) (omega arith) ]
+
+  lines-none : onPost z l u v ≡ false → (k a : ℕ) → findIn v (linesOf z l u a k) ≡ None
+  lines-none t zero a = find-nil a
+  lines-none t (suc k) a = elim (cases-eq a v)
+      [ inl e ↦ ap (λ x. findIn v (linesOf z l u x (suc k))) e ∙ find-skip k t ∙ lines-none t k (v + 1)
+      | inr ne ↦ find-past a k ne ∙ lines-none t k (a + 1) ]
+
+  pub post-some : v < z .n → onPost z l u v ≡ true → findIn v (postOf z l u) ≡ Some (lineOf z l u v)
+  post-some vn t = lines-some t (z .n) 0 (omega arith) (omega arith)
+
+  pub post-none : onPost z l u v ≡ false → findIn v (postOf z l u) ≡ None
+  post-none t = lines-none t (z .n) 0

@@ -1,0 +1,32 @@
+-- The promise of the whole: by the posts and the card of a map everybody arrives, and at which cost. Assumes nothing.
+use mathlib.Core.Path.{_≡_}
+use mathlib.Core.Bool.{Bool, true, false}
+use Prim.Native.Nat.{ℕ, _*_, _<_, _≤_}
+use Rattle.ways.specs.Map.{Map, Far, At, far}
+use Rattle.ways.specs.Ways.{Route}
+use Rattle.landmarks.specs.Landmarks.{Marks, near, Sound}
+use Rattle.cards.specs.Cards.{cardOf}
+use Rattle.walking.specs.Walks.{walkOf, travels, postsOf}
+use Rattle.walking.specs.declared.kinds.End.the-variants.{Arrived}
+
+-- The walk from u with the card of v, by the posts of the map.
+pub record Whole (z : Map) (l : Marks) (u v : ℕ) : Type 0 where
+  pub cost : ℕ
+  pub roads : ℕ
+  pub away : ℕ
+  -- one arrives, within the budget of 2 n roads
+  pub arrives : walkOf z (postsOf z l) (cardOf z l v) u ≡ Arrived cost
+  -- and in truth after so many roads, fewer than n: no place comes twice
+  pub few : roads < z .n
+  pub in-time : (k : ℕ) → roads < k → travels k z (postsOf z l) (cardOf z l v) 0 u ≡ Arrived cost
+  -- what is walked is a way of the map, of just that cost
+  pub way : Route z v u cost roads
+  -- it costs at most three times the distance
+  pub away-is : far z v u ≡ At away
+  pub thrice : cost ≤ 3 * away
+  -- and just the distance, if the place is near the first post or is a landmark
+  pub from-near : near z l u v ≡ true → cost ≡ away
+  pub to-landmark : l v ≡ true → cost ≡ away
+
+abbrev pub Promise : Type 0
+Promise = (z : Map) (l : Marks) → Sound z l → (u v : ℕ) → u < z .n → v < z .n → Whole z l u v

@@ -1,0 +1,23 @@
+// The laws of walks and the promise of the whole: theorems, each on the contract of a function.
+ghost use mathlib.Core.Path.{_≡_};
+ghost use Rattle.walking.specs.General.{Guided-arrives, Guided-thrice, Wide-starts};
+ghost use Rattle.walking.specs.Promise.{Promise};
+
+/// The laws of walks by any closed set of places and any landmark; how many there are.
+pub fn guided_laws() -> u8
+    ensures count { λ r. ⌜ r ≡ 3 ⌝ }
+    ensures arrives { λ _. ⌜ Guided-arrives ⌝ }
+    ensures thrice { λ _. ⌜ Guided-thrice ⌝ }
+    ensures starts { λ _. ⌜ Wide-starts ⌝ }
+{
+    3
+}
+
+/// By the posts and the card of a map everybody arrives, after fewer than n roads, and pays at most three times the distance.
+/// Says three.
+pub fn promise_stands() -> u8
+    ensures most { λ r. ⌜ r ≡ 3 ⌝ }
+    ensures promise { λ _. ⌜ Promise ⌝ }
+{
+    3
+}
