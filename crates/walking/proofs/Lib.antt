@@ -3,3 +3,4 @@ pub mod Guided
 pub mod Finding
 pub mod Saying
 pub mod Promised
+pub mod Worked

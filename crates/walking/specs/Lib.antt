@@ -1,3 +1,4 @@
 pub mod Walks
 pub mod General
 pub mod Promise
+pub mod Cases

@@ -2,6 +2,7 @@
 ghost use mathlib.Core.Path.{_≡_};
 ghost use Rattle.walking.specs.General.{Guided-arrives, Guided-thrice, Wide-starts};
 ghost use Rattle.walking.specs.Promise.{Promise};
+ghost use Rattle.walking.specs.Cases.{Cases-hold, Landmarks-everywhere, Nine-places, Thrice};
 
 /// The laws of walks by any closed set of places and any landmark; how many there are.
 pub fn guided_laws() -> u8
@@ -20,4 +21,15 @@ pub fn promise_stands() -> u8
     ensures promise { λ _. ⌜ Promise ⌝ }
 {
     3
+}
+
+/// The worked cases: the table, landmarks everywhere, nine places, and that three times the distance is reached; how many there are.
+pub fn cases_stand() -> u8
+    ensures count { λ r. ⌜ r ≡ 4 ⌝ }
+    ensures table { λ _. ⌜ Cases-hold ⌝ }
+    ensures everywhere { λ _. ⌜ Landmarks-everywhere ⌝ }
+    ensures nine { λ _. ⌜ Nine-places ⌝ }
+    ensures thrice { λ _. ⌜ Thrice ⌝ }
+{
+    4
 }
