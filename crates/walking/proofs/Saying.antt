@@ -20,7 +20,7 @@ use Rattle.walking.specs.Walks.{Posts, asLine, asHint, asNear, goes, onward, t
 use Rattle.walking.specs.General.{Rule, journey, ruleOf}
 use Rattle.walking.specs.declared.kinds.End.{End}
 use Rattle.walking.specs.declared.kinds.End.the-variants.{Arrived, Stuck, Worn}
-use Rattle.walking.proofs.Finding.{post-some, post-none}
+use Rattle.posts.proofs.Finding.{post-some, post-none}
 
 -- ---- a walk by posts and a card is a journey by what they say
 abbrev pub saying : Posts → Card → Rule

@@ -1,18 +1,21 @@
--- A place is found on the post of a map just where it has a line there. Assumes nothing.
+-- The post of a map: a place is found there just where it has a line, and there are as many lines as were counted. Assumes nothing.
 use mathlib.Core.Path.{_≡_, refl, sym, ap, _∙_}
 use mathlib.Core.Bool.{Bool, true, false, cond}
 use mathlib.Core.List.{List, [], _∷_}
 use mathlib.Core.Logic.{_⊎_, inl, inr}
 use Prim.Native.Nat.{ℕ, zero, suc, _+_, _<_, _≤_}
 use native.Mathlib.Omega.{arith}
+use native.Mathlib.Numerals.{add-one}
 use lib.Dec.{eqb}
+use lib.ListN.{length}
 use Rattle.std.proofs.shelf.Tests.{cases-bool, cases-eq, both-ways, eq-eqb, ne-eqb, cond-true, cond-false}
 use Rattle.std.specs.declared.option.Option.{Option}
 use Rattle.std.specs.declared.option.Option.the-variants.{Some, None}
 use Rattle.ways.specs.Map.{Map}
-use Rattle.landmarks.specs.Landmarks.{Marks, onPost}
+use Rattle.ways.specs.Ways.{countBelow}
+use Rattle.landmarks.specs.Landmarks.{Marks, onPost, lineCount}
 use Rattle.posts.specs.declared.kinds.Line.{Line}
 use Rattle.posts.specs.Posts.{lineOf, linesOf, postOf, findIn}
 
 module _ (z : Map) (l : Marks) (u v : ℕ) where
   -- past a place that isn't v
@@ -54,3 +57,28 @@ module _ (z : Map) (l : Marks) (u v : ℕ) where
 
   pub post-none : onPost z l u v ≡ false → findIn v (postOf z l u) ≡ None
   post-none t = lines-none t (z .n) 0
+
+module _ (z : Map) (l : Marks) (u : ℕ) where
+  -- ---- how many lines
+  one-line : (a k : ℕ) → length (linesOf z l u a (suc k)) ≡ cond (onPost z l u a) 1 0 + length (linesOf z l u (a + 1) k)
+  unfolding linesOf
+  one-line a k = elim (cases-bool (onPost z l u a)) [ inl t ↦ rw t (omega arith) | inr t ↦ rw t (omega arith) ]
+
+  one-count : (a : ℕ) → countBelow (a + 1) (onPost z l u) ≡ cond (onPost z l u a) 1 0 + countBelow a (onPost z l u)
+  unfolding countBelow
+  one-count a = rw add-one refl
+
+  no-line : (a : ℕ) → length (linesOf z l u a 0) ≡ 0
+  unfolding linesOf
+  no-line a = refl
+
+  lines-length : (k a m : ℕ) → a + k ≡ m → length (linesOf z l u a k) + countBelow a (onPost z l u) ≡ countBelow m (onPost z l u)
+  lines-length zero a m e = let s : a ≡ m = omega arith in omega (arith, no-line a, ap (λ x. countBelow x (onPost z l u)) s)
+  lines-length (suc k) a m e = omega (arith, one-line a k, one-count a, lines-length k (a + 1) m (omega arith))
+
+  no-count : countBelow 0 (onPost z l u) ≡ 0
+  unfolding countBelow
+  no-count = refl
+
+  pub post-length : length (postOf z l u) ≡ lineCount z l u
+  post-length = omega (arith, lines-length (z .n) 0 (z .n) (omega arith), no-count)
