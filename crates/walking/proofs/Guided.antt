@@ -29,11 +29,11 @@ module _ (z : Map) (known : ℕ → Bool) (mark v : ℕ) (joined : Joined z) (g 
   rule = ruleOf z known mark v
 
   -- ---- what the rule says on each leg
-  rule-last : (u : ℕ) → (known u ≡ true) ⊎ (u ≡ mark) → rule u ≡ hop z v u
+  pub rule-last : (u : ℕ) → (known u ≡ true) ⊎ (u ≡ mark) → rule u ≡ hop z v u
   rule-last u (inl t) = rw t refl
   rule-last u (inr e) = elim (cases-bool (known u)) [ inl t ↦ rw t refl | inr t ↦ rw (t, eq-eqb u mark e, e) refl ]
 
-  rule-first : (u : ℕ) → known u ≡ false → (u ≡ mark → ⊥) → rule u ≡ hop z mark u
+  pub rule-first : (u : ℕ) → known u ≡ false → (u ≡ mark → ⊥) → rule u ≡ hop z mark u
   rule-first u t ne = rw (t, ne-eqb u mark ne) refl
 
   next-known : (u w : ℕ) → u < z .n → (known u ≡ true) ⊎ (u ≡ mark) → hop z v u ≡ To w → known w ≡ true

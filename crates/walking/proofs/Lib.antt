@@ -1,5 +1,6 @@
 pub mod Following
 pub mod Guided
+pub mod Bridges
 pub mod Saying
 pub mod Promised
 pub mod Worked

@@ -11,6 +11,7 @@ use Rattle.ways.proofs.Hanging.{hanging-together}
 use Rattle.landmarks.specs.Landmarks.{nearest}
 use Rattle.landmarks.proofs.Near.{lines-few}
 use Rattle.posts.specs.Posts.{linesOf}
+use Rattle.posts.proofs.Finding.{post-length}
 use Rattle.walking.specs.Walks.{travels}
 use Rattle.walking.specs.Cases.{Road, leads, priced, roadMap, flatRoads, flat, only, passed, sameList, allHold, noneNear, Cases-hold, Landmarks-everywhere, Nine-places, Thrice}
 
@@ -23,7 +24,7 @@ unfolding within lowest firstOf nearest linesOf travels priced allBelow noneNear
 landmarks-everywhere = refl
 
 pub nine-places : Nine-places
-nine-places z u n9 un = omega (arith, lines-few z (only 0) u (omega arith))
+nine-places z u n9 un = omega (arith, post-length z (only 0) u, lines-few z (only 0) u (omega arith))
 
 -- ---- roads cost the same both ways
 or-swap : (x y : Bool) → (x || y) ≡ (y || x)

@@ -4,9 +4,10 @@ use mathlib.Core.Bool.{Bool, true, false, cond, _&&_, _||_, not}
 use mathlib.Core.List.{List, [], _∷_}
 use Prim.Native.Nat.{ℕ, zero, suc, _+_, _*_, _<_, _≤_}
 use lib.Dec.{eqb}
+use lib.ListN.{length}
 use Rattle.ways.specs.Map.{Map, Far, Never, At, far, sameFar, Hop, Nowhere, To}
 use Rattle.ways.specs.Ways.{allBelow}
-use Rattle.landmarks.specs.Landmarks.{Marks, near, lineCount, Sound}
+use Rattle.landmarks.specs.Landmarks.{Marks, near, Sound}
 use Rattle.posts.specs.declared.kinds.Line.{Line}
 use Rattle.posts.specs.Posts.{postOf}
 use Rattle.cards.specs.declared.kinds.Card.{Card}
@@ -152,7 +153,7 @@ Landmarks-everywhere = (everywhere row && everywhere triangle) ≡ true
 
 -- ---- on a map of nine places no post has more than 8 lines, with place 0 as the only landmark
 abbrev pub Nine-places : Type 0
-Nine-places = (z : Map) (u : ℕ) → z .n ≡ 9 → u < 9 → lineCount z (only 0) u ≤ 8
+Nine-places = (z : Map) (u : ℕ) → z .n ≡ 9 → u < 9 → length (postOf z (only 0) u) ≤ 8
 
 -- ---- the bound of three times the distance is reached
 pub record Thrice : Type 0 where

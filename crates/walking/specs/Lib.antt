@@ -1,4 +1,5 @@
 pub mod Walks
 pub mod General
 pub mod Promise
+pub mod Trees
 pub mod Cases

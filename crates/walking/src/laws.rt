@@ -2,6 +2,7 @@
 ghost use mathlib.Core.Path.{_≡_};
 ghost use Rattle.walking.specs.General.{Guided-arrives, Guided-thrice, Wide-starts};
 ghost use Rattle.walking.specs.Promise.{Promise};
+ghost use Rattle.walking.specs.Trees.{Guided-tree, Tree-cheapest};
 ghost use Rattle.walking.specs.Cases.{Cases-hold, Landmarks-everywhere, Nine-places, Thrice};
 
 /// The laws of walks by any closed set of places and any landmark; how many there are.
@@ -21,6 +22,15 @@ pub fn promise_stands() -> u8
     ensures promise { λ _. ⌜ Promise ⌝ }
 {
     3
+}
+
+/// On a tree every walk is cheapest: by any wide set of places, and by posts and card. How many laws there are.
+pub fn tree_laws() -> u8
+    ensures count { λ r. ⌜ r ≡ 2 ⌝ }
+    ensures guided { λ _. ⌜ Guided-tree ⌝ }
+    ensures cheapest { λ _. ⌜ Tree-cheapest ⌝ }
+{
+    2
 }
 
 /// The worked cases: the table, landmarks everywhere, nine places, and that three times the distance is reached; how many there are.
