@@ -9,11 +9,14 @@ use Rattle.std.proofs.shelf.Tests.{cases-bool, false≢true, lt-ltb, le-ltb, lt
 use Rattle.ways.specs.Map.{Far, Never, At}
 use Rattle.landmarks.specs.Landmarks.{closer, Mark, NoMark, Is, orCloser}
 
+pub closer-test : (x y : Far) (p r : ℕ) → x ≡ At p → y ≡ At r → closer x y ≡ ltb p r
+closer-test x y p r h g = rw (h, g) refl
+
 pub closer-so : (x y : Far) (p r : ℕ) → x ≡ At p → y ≡ At r → p < r → closer x y ≡ true
-closer-so x y p r h g l = rw (h, g) (lt-ltb p r l)
+closer-so x y p r h g l = closer-test x y p r h g ∙ lt-ltb p r l
 
 pub closer-not : (x y : Far) (p r : ℕ) → x ≡ At p → y ≡ At r → r ≤ p → closer x y ≡ false
-closer-not x y p r h g l = rw (h, g) (le-ltb p r l)
+closer-not x y p r h g l = closer-test x y p r h g ∙ le-ltb p r l
 
 -- what is closer is there
 pub closer-some : (x y : Far) → closer x y ≡ true → (p : ℕ) × (x ≡ At p)

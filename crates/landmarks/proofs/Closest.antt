@@ -9,6 +9,7 @@ use Rattle.std.proofs.shelf.Tests.{cases-bool, cases-eq, cases-lt}
 use Rattle.ways.specs.Map.{Map, Far, Never, At, far}
 use Rattle.ways.proofs.Fars.{at-same}
 use Rattle.ways.proofs.Certified.{certified}
+use Rattle.ways.proofs.Metric.{far-zero}
 use Rattle.landmarks.specs.Landmarks.{Marks, closer, Mark, NoMark, Is, orCloser, nearest, markOf}
 use Rattle.landmarks.specs.Laws.{Closest, Landmark-there, Landmark-only, Landmark-own}
 use Rattle.landmarks.proofs.Closer.{closer-is, Found, or-keeps, or-takes, or-is}
@@ -97,10 +98,6 @@ landmark-there z l joined some v vn =
 
 pub landmark-only : Landmark-only
 landmark-only z l v m r c = nearest-only z l v (z .n) m r c
-
--- what is at no distance is the place
-pub far-zero : (z : Map) (d a : ℕ) → d < z .n → a < z .n → far z d a ≡ At 0 → a ≡ d
-far-zero z d a dn an h = elim (cases-eq a d) [ inl e ↦ e | inr ne ↦ (let r = certified z d dn .step a 0 an ne h in absurd (omega (arith, r .3, r .5))) ]
 
 pub landmark-own : Landmark-own
 landmark-own z l v vn is =

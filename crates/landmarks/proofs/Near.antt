@@ -5,14 +5,14 @@ use mathlib.Core.Logic.{_⊎_, inl, inr}
 use Prim.Native.Nat.{ℕ, zero, suc, _+_, _<_, _≤_}
 use native.Mathlib.Omega.{arith}
 use lib.Dec.{eqb, ltb}
-use Rattle.std.proofs.shelf.Tests.{and-left, not-from-true, eq-eqb, le-ltb}
+use Rattle.std.proofs.shelf.Tests.{and-from, and-left, and-right, or-from, or-left, or-right, not-from-true, not-from-false, eq-eqb, ne-eqb, lt-ltb, le-ltb}
 use Rattle.ways.specs.Map.{Map, Far, Never, At, far, To, hop}
 use Rattle.ways.proofs.Fars.{at-same}
 use Rattle.ways.proofs.NextPlaces.{next-place}
 use Rattle.ways.proofs.Counting.{count-short}
 use Rattle.landmarks.specs.Landmarks.{Marks, closer, Mark, NoMark, Is, markOf, awayOf, placeOf, near, onPost, lineCount}
 use Rattle.landmarks.specs.Laws.{Landmark, NearMeans, Near-means, Near-no-landmark, Near-stays, Near-from-landmark, Near-less, Lines-few}
-use Rattle.landmarks.proofs.Closer.{closer-so, closer-not, closer-some, closer-is, closer-never, closer-trans, closer-rises}
+use Rattle.landmarks.proofs.Closer.{closer-test, closer-so, closer-some, closer-is, closer-never, closer-trans, closer-rises}
 use Rattle.landmarks.proofs.Closest.{nearest-is, nearest-low, landmark-only, landmark-own}
 
 -- ---- by numbers
@@ -20,11 +20,14 @@ module _ (z : Map) (l : Marks) (v m r : ℕ) (c : Landmark z l v m r) where
   landmark-away : awayOf (markOf z l v) ≡ At r
   landmark-away = ap awayOf (landmark-only z l v m r c)
 
+  pub near-test : (u p : ℕ) → far z v u ≡ At p → near z l u v ≡ ltb p r
+  near-test u p h = closer-test (far z v u) (awayOf (markOf z l v)) p r h landmark-away
+
   pub near-so : (u p : ℕ) → far z v u ≡ At p → p < r → near z l u v ≡ true
-  near-so u p h lt = closer-so (far z v u) (awayOf (markOf z l v)) p r h landmark-away lt
+  near-so u p h lt = near-test u p h ∙ lt-ltb p r lt
 
   pub near-not : (u p : ℕ) → far z v u ≡ At p → r ≤ p → near z l u v ≡ false
-  near-not u p h le = closer-not (far z v u) (awayOf (markOf z l v)) p r h landmark-away le
+  near-not u p h le = near-test u p h ∙ le-ltb p r le
 
   pub near-is : (u : ℕ) → near z l u v ≡ true → (p : ℕ) × (far z v u ≡ At p) × (p < r)
   near-is u h = closer-is (far z v u) r (sym (ap (closer (far z v u)) landmark-away) ∙ h)
@@ -70,10 +73,18 @@ with-fewer z l m u v (Is x (At r)) more e h =
 pub near-less : Near-less
 near-less z l m u v more h = with-fewer z l m u v (markOf z l v) more refl h
 
--- ---- how many lines
--- a post has no line for its own place
-pub post-not-own : (z : Map) (l : Marks) (u : ℕ) → onPost z l u u ≡ false
-post-not-own z l u = and-left (not (eqb u u)) (l u || near z l u u) (not-from-true (eqb u u) (eq-eqb u u refl))
+-- ---- what is on a post: landmarks and what is near, but not its own place
+module _ (z : Map) (l : Marks) (u : ℕ) where
+  pub post-has : (v : ℕ) → (u ≡ v → ⊥) → (l v ≡ true) ⊎ (near z l u v ≡ true) → onPost z l u v ≡ true
+  post-has v ne why =
+      and-from (not (eqb v u)) (l v || near z l u v) (not-from-false (eqb v u) (ne-eqb v u (λ e. ne (sym e))))
+        (elim why [ inl t ↦ or-left (l v) (near z l u v) t | inr t ↦ or-right (l v) (near z l u v) t ])
+
+  pub post-lacks : (v : ℕ) → l v ≡ false → near z l u v ≡ false → onPost z l u v ≡ false
+  post-lacks v t s = and-right (not (eqb v u)) (l v || near z l u v) (or-from (l v) (near z l u v) t s)
+
+  pub post-not-own : onPost z l u u ≡ false
+  post-not-own = and-left (not (eqb u u)) (l u || near z l u u) (not-from-true (eqb u u) (eq-eqb u u refl))
 
 pub lines-few : Lines-few
 lines-few z l u un = count-short (z .n) u (onPost z l u) un (post-not-own z l u)

@@ -5,7 +5,6 @@ use mathlib.Core.List.{List, [], _∷_}
 use mathlib.Core.Logic.{_⊎_, inl, inr}
 use Prim.Native.Nat.{ℕ, zero, suc, _+_, _<_, _≤_}
 use native.Mathlib.Omega.{arith}
-use native.Mathlib.Numerals.{add-one}
 use lib.Dec.{eqb}
 use lib.ListN.{length}
 use Rattle.std.proofs.shelf.Tests.{cases-bool, cases-eq, both-ways, eq-eqb, ne-eqb, cond-true, cond-false}
@@ -13,6 +12,7 @@ use Rattle.std.specs.declared.option.Option.{Option}
 use Rattle.std.specs.declared.option.Option.the-variants.{Some, None}
 use Rattle.ways.specs.Map.{Map}
 use Rattle.ways.specs.Ways.{countBelow}
+use Rattle.ways.proofs.Counting.{count-start, count-next}
 use Rattle.landmarks.specs.Landmarks.{Marks, onPost, lineCount}
 use Rattle.posts.specs.declared.kinds.Line.{Line}
 use Rattle.posts.specs.Posts.{lineOf, linesOf, postOf, findIn}
@@ -64,21 +64,13 @@ module _ (z : Map) (l : Marks) (u : ℕ) where
   unfolding linesOf
   one-line a k = elim (cases-bool (onPost z l u a)) [ inl t ↦ rw t (omega arith) | inr t ↦ rw t (omega arith) ]
 
-  one-count : (a : ℕ) → countBelow (a + 1) (onPost z l u) ≡ cond (onPost z l u a) 1 0 + countBelow a (onPost z l u)
-  unfolding countBelow
-  one-count a = rw add-one refl
-
   no-line : (a : ℕ) → length (linesOf z l u a 0) ≡ 0
   unfolding linesOf
   no-line a = refl
 
   lines-length : (k a m : ℕ) → a + k ≡ m → length (linesOf z l u a k) + countBelow a (onPost z l u) ≡ countBelow m (onPost z l u)
   lines-length zero a m e = let s : a ≡ m = omega arith in omega (arith, no-line a, ap (λ x. countBelow x (onPost z l u)) s)
-  lines-length (suc k) a m e = omega (arith, one-line a k, one-count a, lines-length k (a + 1) m (omega arith))
-
-  no-count : countBelow 0 (onPost z l u) ≡ 0
-  unfolding countBelow
-  no-count = refl
+  lines-length (suc k) a m e = omega (arith, one-line a k, count-next a (onPost z l u), lines-length k (a + 1) m (omega arith))
 
   pub post-length : length (postOf z l u) ≡ lineCount z l u
-  post-length = omega (arith, lines-length (z .n) 0 (z .n) (omega arith), no-count)
+  post-length = omega (arith, lines-length (z .n) 0 (z .n) (omega arith), count-start (onPost z l u))

@@ -4,7 +4,7 @@ use mathlib.Core.Bool.{Bool, true, false, cond, _&&_, _||_, not}
 use mathlib.Core.Logic.{_⊎_, inl, inr}
 use Prim.Native.Nat.{ℕ, zero, suc, _+_, _<_, _≤_}
 use lib.Dec.{eqb, ltb}
-use Rattle.std.proofs.shelf.Tests.{cases-bool, cases-eq, eq-eqb, ne-eqb, and-from, not-from-false, or-left, or-right, cond-true, cond-false}
+use Rattle.std.proofs.shelf.Tests.{cases-bool, cases-eq, eq-eqb, ne-eqb, cond-true, cond-false}
 use Rattle.std.specs.declared.option.Option.{Option}
 use Rattle.std.specs.declared.option.Option.the-variants.{Some, None}
 use Rattle.ways.specs.Map.{Map, Hop, Nowhere, To, hop}
@@ -12,6 +12,7 @@ use Rattle.ways.specs.Ways.{Joined}
 use Rattle.ways.proofs.NextPlaces.{next-place}
 use Rattle.distances.specs.Rows.{hopNumber}
 use Rattle.landmarks.specs.Landmarks.{Marks, markOf, placeOf, near, onPost}
+use Rattle.landmarks.proofs.Near.{post-has}
 use Rattle.posts.specs.declared.kinds.Line.{Line}
 use Rattle.posts.specs.Posts.{lineOf, postOf, findIn}
 use Rattle.cards.specs.declared.kinds.Card.{Card}
@@ -68,11 +69,6 @@ module _ (z : Map) (l : Marks) (joined : Joined z) (v : ℕ) (vn : v < z .n) whe
   abbrev mark : ℕ
   mark = markPlace z l v
 
-  -- a place is on the post at u if it is near or a landmark
-  on-post : (u x : ℕ) → (u ≡ x → ⊥) → (l x ≡ true) ⊎ (near z l u x ≡ true) → onPost z l u x ≡ true
-  on-post u x ne (inl t) = and-from (not (eqb x u)) (l x || near z l u x) (not-from-false (eqb x u) (ne-eqb x u (λ e. ne (sym e)))) (or-left (l x) (near z l u x) t)
-  on-post u x ne (inr t) = and-from (not (eqb x u)) (l x || near z l u x) (not-from-false (eqb x u) (ne-eqb x u (λ e. ne (sym e)))) (or-right (l x) (near z l u x) t)
-
   -- the next place towards x is there
   next-there : (u x : ℕ) → u < z .n → x < z .n → (u ≡ x → ⊥) → (w : ℕ) × (hop z x u ≡ To w)
   next-there u x un xn ne = let d = joined x u xn un in next-place z x u xn un .there (d .0) (d .1) ne
@@ -91,7 +87,7 @@ module _ (z : Map) (l : Marks) (joined : Joined z) (v : ℕ) (vn : v < z .n) whe
           ∙ sym (cond-true (eqb u mark) (hop z v mark) (hop z mark u) (eq-eqb u mark e))
       | inr ne ↦ (let w = next-there u mark un mn ne in
                   cond-false (eqb u mark) (asHint (hintOf (hop z v mark))) (asLine (findIn mark (postOf z l u))) (ne-eqb u mark ne)
-                  ∙ line-says z l u mark (findIn mark (postOf z l u)) (w .0) (post-some z l u mark mn (on-post u mark ne (inl marked))) (w .1)
+                  ∙ line-says z l u mark (findIn mark (postOf z l u)) (w .0) (post-some z l u mark mn (post-has z l u mark ne (inl marked))) (w .1)
                   ∙ sym (cond-false (eqb u mark) (hop z v mark) (hop z mark u) (ne-eqb u mark ne))) ]
 
   -- off v it comes to what is near
@@ -104,7 +100,7 @@ module _ (z : Map) (l : Marks) (joined : Joined z) (v : ℕ) (vn : v < z .n) whe
       let past : Hop = cond (eqb u mark) (asHint (hintOf (hop z v mark))) (asLine (findIn mark (postOf z l u))) in
       elim (cases-bool (near z l u v))
         [ inl t ↦ (let w = next-there u v un vn ne in
-                   near-says z l u v (findIn v (postOf z l u)) past (w .0) (post-some z l u v vn (on-post u v ne (inr t))) t (w .1)
+                   near-says z l u v (findIn v (postOf z l u)) past (w .0) (post-some z l u v vn (post-has z l u v ne (inr t))) t (w .1)
                    ∙ sym (cond-true (known z l v u) (hop z v u) (cond (eqb u mark) (hop z v mark) (hop z mark u)) (known-off u ne ∙ t)))
         | inr t ↦ not-near u past t
             ∙ rest u mn marked un

@@ -6,6 +6,7 @@
 --   ruleOf    the rule of a set of places and a landmark: from the places of the set towards v, and from the landmark too; from elsewhere
 --             towards the landmark
 --   Follow    a rule leads from u to v by so many roads that cost so much
+--   Leads     a rule leads from u to a place on the way by so many roads
 --   Guide     what the set and the landmark need so that one arrives
 --   Walked    a walk by a rule from u that ends at v
 use mathlib.Core.Path.{_≡_}
@@ -32,6 +33,26 @@ ruleOf z known mark v u = cond (known u) (hop z v u) (cond (eqb u mark) (hop z v
 pub data Follow (z : Map) (rule : Rule) (v : ℕ) : ℕ → ℕ → ℕ → Type 0 where
   there : v < z .n → Follow z rule v v 0 0
   on : (u e c k : ℕ) → u < z .n → (u ≡ v → ⊥) → rule u ≡ To e → 0 < z .cost u e → Follow z rule v e c k → Follow z rule v u (z .cost u e + c) (1 + k)
+
+pub data Leads (rule : Rule) (v x : ℕ) : ℕ → ℕ → Type 0 where
+  already : Leads rule v x x 0
+  further : (u e k : ℕ) → (u ≡ v → ⊥) → rule u ≡ To e → Leads rule v x e k → Leads rule v x u (1 + k)
+
+-- Nobody turns in a ring: where a rule leads to v, no place on the way comes twice.
+abbrev pub No-ring : Type 0
+No-ring = (z : Map) (rule : Rule) (v u x c k i j : ℕ) → Follow z rule v u c k → Leads rule v x u i → Leads rule v x x (1 + j) → ⊥
+
+-- no road leads off the map
+abbrev pub Inside : Map → Type 0
+Inside z = (a e : ℕ) → a < z .n → 0 < z .cost a e → e < z .n
+
+-- Whoever arrives, by a right rule or a wrong one, has followed it, by fewer roads than he might go; and has paid what it cost.
+abbrev pub Arrived-followed : Type 0
+Arrived-followed = (z : Map) (rule : Rule) (v k cost u c : ℕ) → Inside z → u < z .n → v < z .n → journey k z rule v cost u ≡ Arrived c → (t : ℕ) × (j : ℕ) × (c ≡ cost + t) × (j < k) × Follow z rule v u t j
+
+-- What is followed is a way of the map, and whoever may go more roads than it has arrives.
+abbrev pub Followed-arrives : Type 0
+Followed-arrives = (z : Map) (rule : Rule) (v u c k : ℕ) → Follow z rule v u c k → Route z v u c k × ((j cost : ℕ) → k < j → journey j z rule v cost u ≡ Arrived (cost + c))
 
 -- Once one is in the set one stays there all the way to v, and one step on from the landmark one is in it.
 pub record Guide (z : Map) (known : ℕ → Bool) (mark v : ℕ) : Type 0 where

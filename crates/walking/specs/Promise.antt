@@ -6,7 +6,9 @@ use Rattle.ways.specs.Map.{Map, Far, At, far}
 use Rattle.ways.specs.Ways.{Route}
 use Rattle.landmarks.specs.Landmarks.{Marks, near, Sound}
 use Rattle.cards.specs.Cards.{cardOf}
-use Rattle.walking.specs.Walks.{walkOf, travels, postsOf}
+use Rattle.cards.specs.declared.kinds.Card.{Card}
+use Rattle.walking.specs.Walks.{Posts, walkOf, travels, postsOf}
+use Rattle.walking.specs.General.{Inside}
 use Rattle.walking.specs.declared.kinds.End.the-variants.{Arrived}
 
 -- The walk from u with the card of v, by the posts of the map.
@@ -30,3 +32,7 @@ pub record Whole (z : Map) (l : Marks) (u v : ℕ) : Type 0 where
 
 abbrev pub Promise : Type 0
 Promise = (z : Map) (l : Marks) → Sound z l → (u v : ℕ) → u < z .n → v < z .n → Whole z l u v
+
+-- By whatever posts and card, right or wrong: whoever arrives has walked a way of the map of just that cost, by fewer roads than he might go.
+abbrev pub Walks-ways : Type 0
+Walks-ways = (z : Map) (posts : Posts) (card : Card) (k u c : ℕ) → Inside z → u < z .n → card .place < z .n → travels k z posts card 0 u ≡ Arrived c → (j : ℕ) × (j < k) × Route z (card .place) u c j

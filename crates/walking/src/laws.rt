@@ -1,9 +1,20 @@
 // The laws of walks and the promise of the whole: theorems, each on the contract of a function.
 ghost use mathlib.Core.Path.{_≡_};
-ghost use Rattle.walking.specs.General.{Guided-arrives, Guided-thrice, Wide-starts};
-ghost use Rattle.walking.specs.Promise.{Promise};
+ghost use Rattle.walking.specs.General.{Followed-arrives, Arrived-followed, No-ring, Guided-arrives, Guided-thrice, Wide-starts};
+ghost use Rattle.walking.specs.Promise.{Promise, Walks-ways};
 ghost use Rattle.walking.specs.Trees.{Guided-tree, Tree-cheapest};
 ghost use Rattle.walking.specs.Cases.{Cases-hold, Landmarks-everywhere, Nine-places, Thrice};
+
+/// The laws of walks by any rule, right or wrong; how many there are.
+pub fn rule_laws() -> u8
+    ensures count { λ r. ⌜ r ≡ 4 ⌝ }
+    ensures arrives { λ _. ⌜ Followed-arrives ⌝ }
+    ensures followed { λ _. ⌜ Arrived-followed ⌝ }
+    ensures ring { λ _. ⌜ No-ring ⌝ }
+    ensures ways { λ _. ⌜ Walks-ways ⌝ }
+{
+    4
+}
 
 /// The laws of walks by any closed set of places and any landmark; how many there are.
 pub fn guided_laws() -> u8

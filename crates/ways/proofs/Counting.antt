@@ -4,6 +4,7 @@ use mathlib.Core.Bool.{Bool, true, false, cond}
 use mathlib.Core.Logic.{_⊎_, inl, inr}
 use Prim.Native.Nat.{ℕ, zero, suc, _+_, _<_, _≤_}
 use native.Mathlib.Omega.{arith}
+use native.Mathlib.Numerals.{add-one}
 use Rattle.std.proofs.shelf.Tests.{cases-eq}
 use Rattle.ways.specs.Ways.{countBelow}
 
@@ -15,6 +16,14 @@ pub count-most : (k : ℕ) (f : ℕ → Bool) → countBelow k f ≤ k
 unfolding countBelow
 count-most zero f = omega arith
 count-most (suc k) f = omega (arith, count-most k f, one-most (f k))
+
+pub count-start : (f : ℕ → Bool) → countBelow 0 f ≡ 0
+unfolding countBelow
+count-start f = refl
+
+pub count-next : (k : ℕ) (f : ℕ → Bool) → countBelow (k + 1) f ≡ cond (f k) 1 0 + countBelow k f
+unfolding countBelow
+count-next k f = rw add-one refl
 
 pub count-none : (k : ℕ) (f : ℕ → Bool) → ((i : ℕ) → i < k → f i ≡ false) → countBelow k f ≡ 0
 unfolding countBelow

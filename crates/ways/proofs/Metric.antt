@@ -49,6 +49,10 @@ module _ (z : Map) where
     pub there-and-back : (a e : ℕ) → a < z .n → e < z .n → far z a e ≡ far z e a
     there-and-back a e l m = back-at (far z a e) (far z e a) a e l m refl refl
 
+-- what is at no distance is the place itself
+pub far-zero : (z : Map) (d a : ℕ) → d < z .n → a < z .n → far z d a ≡ At 0 → a ≡ d
+far-zero z d a dn an h = elim (cases-eq a d) [ inl e ↦ e | inr ne ↦ (let r = certified z d dn .step a 0 an ne h in absurd (omega (arith, r .3, r .5))) ]
+
 pub symmetric : Symmetric
 symmetric z both a e l m = there-and-back z both a e l m
 
