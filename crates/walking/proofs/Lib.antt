@@ -5,3 +5,4 @@ pub mod Saying
 pub mod Arriving
 pub mod Promised
 pub mod Worked
+pub mod TreesThere

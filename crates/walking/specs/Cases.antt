@@ -13,6 +13,7 @@ use Rattle.posts.specs.Posts.{postOf}
 use Rattle.cards.specs.declared.kinds.Card.{Card}
 use Rattle.cards.specs.Cards.{hintNumber, cardOf}
 use Rattle.walking.specs.Walks.{Posts, goes, walkOf, postsOf}
+use Rattle.walking.specs.Trees.{Tree}
 use Rattle.walking.specs.declared.kinds.End.{End}
 use Rattle.walking.specs.declared.kinds.End.the-variants.{Arrived, Stuck, Worn}
 
@@ -154,6 +155,10 @@ Landmarks-everywhere = (everywhere row && everywhere triangle) ≡ true
 -- ---- on a map of nine places no post has more than 8 lines, with place 0 as the only landmark
 abbrev pub Nine-places : Type 0
 Nine-places = (z : Map) (u : ℕ) → z .n ≡ 9 → u < 9 → length (postOf z (only 0) u) ≤ 8
+
+-- ---- the row and the star are trees
+abbrev pub Trees-there : Type 0
+Trees-there = Tree row × Tree star
 
 -- ---- the bound of three times the distance is reached
 pub record Thrice : Type 0 where

@@ -3,7 +3,7 @@ ghost use mathlib.Core.Path.{_≡_};
 ghost use Rattle.walking.specs.General.{Followed-arrives, Arrived-followed, No-ring, Guided-arrives, Guided-thrice, Wide-starts};
 ghost use Rattle.walking.specs.Promise.{Promise, Walks-ways};
 ghost use Rattle.walking.specs.Trees.{Guided-tree, Tree-cheapest};
-ghost use Rattle.walking.specs.Cases.{Cases-hold, Landmarks-everywhere, Nine-places, Thrice};
+ghost use Rattle.walking.specs.Cases.{Cases-hold, Landmarks-everywhere, Nine-places, Trees-there, Thrice};
 
 /// The laws of walks by any rule, right or wrong; how many there are.
 pub fn rule_laws() -> u8
@@ -44,13 +44,14 @@ pub fn tree_laws() -> u8
     2
 }
 
-/// The worked cases: the table, landmarks everywhere, nine places, and that three times the distance is reached; how many there are.
+/// The worked cases: the table, landmarks everywhere, nine places, two trees, and that three times the distance is reached; how many there are.
 pub fn cases_stand() -> u8
-    ensures count { λ r. ⌜ r ≡ 4 ⌝ }
+    ensures count { λ r. ⌜ r ≡ 5 ⌝ }
     ensures table { λ _. ⌜ Cases-hold ⌝ }
     ensures everywhere { λ _. ⌜ Landmarks-everywhere ⌝ }
     ensures nine { λ _. ⌜ Nine-places ⌝ }
+    ensures trees { λ _. ⌜ Trees-there ⌝ }
     ensures thrice { λ _. ⌜ Thrice ⌝ }
 {
-    4
+    5
 }
