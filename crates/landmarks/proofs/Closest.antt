@@ -1,16 +1,16 @@
 -- The landmark of a place: that it is there, that it is the closest and the lowest, and how one looks for it place by place. Assumes nothing.
-use mathlib.Core.Path.{_≡_, refl, sym, ap, _∙_, subst}
-use mathlib.Core.Bool.{Bool, true, false, cond}
-use mathlib.Core.Logic.{_⊎_, inl, inr}
+use mathlib.Core.Path.{_≡_, refl, sym, ap, _∙_}
+use mathlib.Core.Bool.{true, false, cond}
+use mathlib.Core.Logic.{inl, inr}
 use Prim.Native.Nat.{ℕ, zero, suc, _+_, _<_, _≤_}
 use native.Mathlib.Omega.{arith}
 use native.Mathlib.Numerals.{add-one}
 use Rattle.std.proofs.shelf.Tests.{cases-bool, cases-eq, cases-lt}
-use Rattle.ways.specs.Map.{Map, Far, Never, At, far}
+use Rattle.ways.specs.Map.{Map, Far, At, far}
 use Rattle.ways.proofs.Fars.{at-same}
 use Rattle.ways.proofs.Certified.{certified}
 use Rattle.ways.proofs.Metric.{far-zero}
-use Rattle.landmarks.specs.Landmarks.{Marks, closer, Mark, NoMark, Is, orCloser, nearest, markOf}
+use Rattle.landmarks.specs.Landmarks.{Marks, closer, NoMark, Is, orCloser, nearest}
 use Rattle.landmarks.specs.Laws.{Closest, Landmark-there, Landmark-only, Landmark-own}
 use Rattle.landmarks.proofs.Closer.{closer-is, Found, or-keeps, or-takes, or-is}
 

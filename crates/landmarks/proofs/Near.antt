@@ -1,17 +1,16 @@
 -- What is near: by numbers, along a way, one step on from a landmark, and with more landmarks. Assumes nothing.
-use mathlib.Core.Path.{_≡_, refl, sym, ap, _∙_, subst}
-use mathlib.Core.Bool.{Bool, true, false, cond, _&&_, _||_, not}
+use mathlib.Core.Path.{_≡_, refl, sym, ap, _∙_}
+use mathlib.Core.Bool.{true, false, _||_, not}
 use mathlib.Core.Logic.{_⊎_, inl, inr}
-use Prim.Native.Nat.{ℕ, zero, suc, _+_, _<_, _≤_}
+use Prim.Native.Nat.{ℕ, _+_, _<_, _≤_}
 use native.Mathlib.Omega.{arith}
 use lib.Dec.{eqb, ltb}
 use Rattle.std.proofs.shelf.Tests.{and-from, and-left, and-right, or-from, or-left, or-right, not-from-true, not-from-false, eq-eqb, ne-eqb, lt-ltb, le-ltb}
 use Rattle.ways.specs.Map.{Map, Far, Never, At, far, To, hop}
-use Rattle.ways.proofs.Fars.{at-same}
 use Rattle.ways.proofs.NextPlaces.{next-place}
 use Rattle.ways.proofs.Counting.{count-short}
-use Rattle.landmarks.specs.Landmarks.{Marks, closer, Mark, NoMark, Is, markOf, awayOf, placeOf, near, onPost, lineCount}
-use Rattle.landmarks.specs.Laws.{Landmark, NearMeans, Near-means, Near-no-landmark, Near-stays, Near-from-landmark, Near-less, Lines-few}
+use Rattle.landmarks.specs.Landmarks.{Marks, closer, Mark, NoMark, Is, markOf, awayOf, placeOf, near, onPost}
+use Rattle.landmarks.specs.Laws.{Landmark, Near-means, Near-no-landmark, Near-stays, Near-from-landmark, Near-less, Lines-few}
 use Rattle.landmarks.proofs.Closer.{closer-test, closer-so, closer-some, closer-is, closer-never, closer-trans, closer-rises}
 use Rattle.landmarks.proofs.Closest.{nearest-is, nearest-low, landmark-only, landmark-own}
 

@@ -1,10 +1,10 @@
 -- The laws of landmarks and of what is near, each as a type; a proof of the type is the theorem. Assumes nothing.
 use mathlib.Core.Path.{_≡_}
-use mathlib.Core.Bool.{Bool, true, false}
+use mathlib.Core.Bool.{true, false}
 use Prim.Native.Nat.{ℕ, _<_, _≤_}
-use Rattle.ways.specs.Map.{Map, Far, At, far, To, hop}
+use Rattle.ways.specs.Map.{Map, At, far, To, hop}
 use Rattle.ways.specs.Ways.{Joined}
-use Rattle.landmarks.specs.Landmarks.{Marks, Mark, Is, markOf, placeOf, near, lineCount}
+use Rattle.landmarks.specs.Landmarks.{Marks, Is, markOf, placeOf, near, lineCount}
 
 -- m is the landmark closest to v among the places 0 to k - 1, at the distance r; the lowest among equals
 pub record Closest (z : Map) (l : Marks) (v k m r : ℕ) : Type 0 where

@@ -1,20 +1,18 @@
 -- The post of a map: a place is found there just where it has a line, and there are as many lines as were counted. Assumes nothing.
-use mathlib.Core.Path.{_≡_, refl, sym, ap, _∙_}
-use mathlib.Core.Bool.{Bool, true, false, cond}
-use mathlib.Core.List.{List, [], _∷_}
-use mathlib.Core.Logic.{_⊎_, inl, inr}
+use mathlib.Core.Path.{_≡_, refl, ap, _∙_}
+use mathlib.Core.Bool.{true, false, cond}
+use mathlib.Core.List.{[], _∷_}
+use mathlib.Core.Logic.{inl, inr}
 use Prim.Native.Nat.{ℕ, zero, suc, _+_, _<_, _≤_}
 use native.Mathlib.Omega.{arith}
 use lib.Dec.{eqb}
 use lib.ListN.{length}
-use Rattle.std.proofs.shelf.Tests.{cases-bool, cases-eq, both-ways, eq-eqb, ne-eqb, cond-true, cond-false}
-use Rattle.std.specs.declared.option.Option.{Option}
+use Rattle.std.proofs.shelf.Tests.{cases-bool, cases-eq, eq-eqb, ne-eqb, cond-true, cond-false}
 use Rattle.std.specs.declared.option.Option.the-variants.{Some, None}
 use Rattle.ways.specs.Map.{Map}
 use Rattle.ways.specs.Ways.{countBelow}
 use Rattle.ways.proofs.Counting.{count-start, count-next}
 use Rattle.landmarks.specs.Landmarks.{Marks, onPost, lineCount}
-use Rattle.posts.specs.declared.kinds.Line.{Line}
 use Rattle.posts.specs.Posts.{lineOf, linesOf, postOf, findIn}
 
 module _ (z : Map) (l : Marks) (u v : ℕ) where

@@ -1,14 +1,14 @@
 -- Whoever arrives has followed the rule, right or wrong, and walked a way of the map. Assumes nothing.
 use mathlib.Core.Path.{_≡_, refl, sym, ap, _∙_, subst}
-use mathlib.Core.Bool.{Bool, true, false, cond}
-use mathlib.Core.Logic.{_⊎_, inl, inr}
-use Prim.Native.Nat.{ℕ, zero, suc, _+_, _<_, _≤_}
+use mathlib.Core.Bool.{cond}
+use mathlib.Core.Logic.{inl, inr}
+use Prim.Native.Nat.{ℕ, zero, suc, _+_, _<_}
 use native.Mathlib.Omega.{arith}
-use lib.Dec.{eqb, ltb}
+use lib.Dec.{ltb}
 use Rattle.std.proofs.shelf.Tests.{cases-bool, cases-eq, ne-eqb, ltb-true}
 use Rattle.ways.specs.Map.{Map, Hop, Nowhere, To}
-use Rattle.walking.specs.Walks.{onward, travels}
-use Rattle.walking.specs.General.{Rule, journey, Follow, there, on, Inside, Arrived-followed}
+use Rattle.walking.specs.Walks.{onward}
+use Rattle.walking.specs.General.{Rule, journey, Follow, there, on, Arrived-followed}
 use Rattle.walking.specs.Promise.{Walks-ways}
 use Rattle.walking.specs.declared.kinds.End.{End}
 use Rattle.walking.specs.declared.kinds.End.the-variants.{Arrived, Stuck, Worn}

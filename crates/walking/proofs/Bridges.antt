@@ -2,18 +2,18 @@
 --
 -- Say that at u the next places towards v and towards the landmark differ. The road from u to the first of them is a bridge. All places closer
 -- to v than u is lie on v's side of it, and the landmark lies on u's side: so the landmark is farther from v than u is, and v was near.
-use mathlib.Core.Path.{_≡_, refl, sym, ap, _∙_}
-use mathlib.Core.Bool.{Bool, true, false, cond}
-use mathlib.Core.Logic.{_⊎_, inl, inr}
-use Prim.Native.Nat.{ℕ, zero, suc, _+_, _<_, _≤_}
+use mathlib.Core.Path.{_≡_, sym, ap, _∙_}
+use mathlib.Core.Bool.{Bool, true, false}
+use mathlib.Core.Logic.{inl, inr}
+use Prim.Native.Nat.{ℕ, zero, suc, _+_, _<_}
 use native.Mathlib.Omega.{arith}
 use Rattle.std.proofs.shelf.Tests.{cases-bool, cases-eq, cases-lt, both-ways}
-use Rattle.ways.specs.Map.{Map, Far, At, far, Hop, To, hop}
+use Rattle.ways.specs.Map.{Map, At, far, To, hop}
 use Rattle.ways.specs.Ways.{Joined}
 use Rattle.ways.proofs.Fars.{at-same}
 use Rattle.ways.proofs.Certified.{certified}
 use Rattle.ways.proofs.NextPlaces.{next-place}
-use Rattle.walking.specs.General.{Rule, ruleOf, Guide, Wide, GuidedWalk, Follow, there, on}
+use Rattle.walking.specs.General.{ruleOf, Guide, Wide, Follow, there, on}
 use Rattle.walking.specs.Trees.{Bridge, Tree, Guided-tree}
 use Rattle.walking.proofs.Guided.{rule-last, rule-first}
 

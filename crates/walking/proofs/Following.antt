@@ -1,17 +1,14 @@
 -- Following a rule place by place up to v: it is a way of the map, and every journey with roads enough ends there. Assumes nothing.
 use mathlib.Core.Path.{_≡_, refl, sym, ap, _∙_, subst}
-use mathlib.Core.Bool.{Bool, true, false, cond}
-use mathlib.Core.Logic.{_⊎_, inl, inr}
-use Prim.Native.Nat.{ℕ, zero, suc, _+_, _<_, _≤_}
+use mathlib.Core.Bool.{cond}
+use Prim.Native.Nat.{ℕ, zero, suc, _+_, _<_}
 use native.Mathlib.Omega.{arith}
-use lib.Dec.{eqb, ltb}
-use Rattle.std.proofs.shelf.Tests.{cases-bool, cases-eq, eq-eqb, ne-eqb, lt-ltb, ltb-true}
-use Rattle.ways.specs.Map.{Map, Hop, Nowhere, To}
+use Rattle.std.proofs.shelf.Tests.{eq-eqb, ne-eqb, lt-ltb}
+use Rattle.ways.specs.Map.{Map, To}
 use Rattle.ways.specs.Ways.{Route, arrived, road}
 use Rattle.walking.specs.Walks.{onward}
-use Rattle.walking.specs.General.{Rule, journey, Follow, there, on, Leads, already, further, Walked, Inside, No-ring, Arrived-followed, Followed-arrives}
-use Rattle.walking.specs.declared.kinds.End.{End}
-use Rattle.walking.specs.declared.kinds.End.the-variants.{Arrived, Stuck, Worn}
+use Rattle.walking.specs.General.{Rule, journey, Follow, there, on, Leads, already, further, Walked, No-ring, Followed-arrives}
+use Rattle.walking.specs.declared.kinds.End.the-variants.{Arrived, Stuck}
 
 pub follow-route : (z : Map) (rule : Rule) (v u c k : ℕ) → Follow z rule v u c k → Route z v u c k
 follow-route z rule v u c k (there vn) = arrived vn

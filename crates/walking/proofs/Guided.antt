@@ -4,14 +4,13 @@
 -- there is a set of places ahead. The next place is ahead, what is ahead of it was ahead before, and no place is ahead of itself: so places
 -- ahead grow fewer with each road, and no place comes twice.
 use mathlib.Core.Path.{_≡_, refl, sym, ap, _∙_, subst}
-use mathlib.Core.Bool.{Bool, true, false, cond, _&&_, _||_}
+use mathlib.Core.Bool.{Bool, true, false, _&&_, _||_}
 use mathlib.Core.Logic.{_⊎_, inl, inr}
-use Prim.Native.Nat.{ℕ, zero, suc, _+_, _*_, _<_, _≤_}
+use Prim.Native.Nat.{ℕ, zero, suc, _+_, _<_, _≤_}
 use native.Mathlib.Omega.{arith}
-use lib.Dec.{eqb}
 use Rattle.std.proofs.shelf.Tests.{cases-bool, cases-eq, cases-lt, both-ways, eq-eqb, ne-eqb, and-from, and-parts, and-right, or-cases, or-from, or-left, or-right}
-use Rattle.ways.specs.Map.{Map, Far, At, far, Hop, To, hop}
-use Rattle.ways.specs.Ways.{Route, BothWays, Joined, countBelow}
+use Rattle.ways.specs.Map.{Map, At, far, To, hop}
+use Rattle.ways.specs.Ways.{Joined, countBelow}
 use Rattle.ways.proofs.Fars.{at-same}
 use Rattle.ways.proofs.Certified.{certified}
 use Rattle.ways.proofs.LeastWays.{least-ways}
@@ -21,7 +20,7 @@ use Rattle.ways.proofs.Counting.{count-less, count-short}
 use Rattle.landmarks.specs.Landmarks.{closer}
 use Rattle.landmarks.proofs.Closer.{closer-self, closer-trans}
 use Rattle.landmarks.proofs.Near.{hop-closer}
-use Rattle.walking.specs.General.{Rule, ruleOf, Guide, Walked, GuidedWalk, Guided-arrives, Wide, Guided-thrice, Wide-starts, Follow, there, on}
+use Rattle.walking.specs.General.{Rule, ruleOf, Guide, GuidedWalk, Guided-arrives, Guided-thrice, Wide-starts, Follow, there, on}
 use Rattle.walking.proofs.Following.{follow-walked}
 
 module _ (z : Map) (known : ℕ → Bool) (mark v : ℕ) (joined : Joined z) (g : Guide z known mark v) where

@@ -1,23 +1,23 @@
 -- By the posts and the card of a map everybody arrives: the walk is the instance of what is near and the landmark of the card. Assumes nothing.
 use mathlib.Core.Path.{_≡_, refl, sym, ap, _∙_}
-use mathlib.Core.Bool.{Bool, true, false, _||_}
-use mathlib.Core.Logic.{_⊎_, inl, inr}
-use Prim.Native.Nat.{ℕ, _+_, _*_, _<_, _≤_}
+use mathlib.Core.Bool.{true}
+use mathlib.Core.Logic.{inl, inr}
+use Prim.Native.Nat.{ℕ, _*_, _<_}
 use native.Mathlib.Omega.{arith}
 use lib.Dec.{eqb}
 use Rattle.std.proofs.shelf.Tests.{eq-eqb, eqb-true, or-cases, or-left, or-right}
-use Rattle.ways.specs.Map.{Map, At, far, Nowhere, To, hop}
+use Rattle.ways.specs.Map.{Map, At, far, Nowhere, To}
 use Rattle.ways.proofs.Fars.{at-same}
 use Rattle.ways.proofs.NextPlaces.{hop-here}
-use Rattle.landmarks.specs.Landmarks.{Marks, Mark, Is, markOf, placeOf, near, Sound}
+use Rattle.landmarks.specs.Landmarks.{Marks, Is, markOf, placeOf, near, Sound}
 use Rattle.landmarks.specs.Laws.{Landmark}
 use Rattle.landmarks.proofs.Closest.{landmark-there, landmark-own}
 use Rattle.landmarks.proofs.Near.{near-so, near-stays, near-from-landmark}
 use Rattle.cards.specs.declared.kinds.Card.{Card}
 use Rattle.cards.specs.Cards.{cardOf}
-use Rattle.walking.specs.Walks.{Posts, travels, postsOf}
-use Rattle.walking.specs.General.{Rule, ruleOf, Guide, GuidedWalk, Wide}
-use Rattle.walking.specs.Promise.{Whole, Promise}
+use Rattle.walking.specs.Walks.{travels, postsOf}
+use Rattle.walking.specs.General.{ruleOf, Guide, GuidedWalk, Wide}
+use Rattle.walking.specs.Promise.{Promise}
 use Rattle.walking.specs.Trees.{Tree-cheapest}
 use Rattle.walking.specs.declared.kinds.End.the-variants.{Arrived}
 use Rattle.walking.proofs.Following.{follow-like, follow-ends}

@@ -1,12 +1,12 @@
 -- What the posts and the card of a map say is the rule of what is near and the landmark of the card. Assumes nothing.
 use mathlib.Core.Path.{_≡_, refl, sym, ap, _∙_}
-use mathlib.Core.Bool.{Bool, true, false, cond, _&&_, _||_, not}
-use mathlib.Core.Logic.{_⊎_, inl, inr}
-use Prim.Native.Nat.{ℕ, zero, suc, _+_, _<_, _≤_}
+use mathlib.Core.Bool.{Bool, true, false, cond, _||_}
+use mathlib.Core.Logic.{inl, inr}
+use Prim.Native.Nat.{ℕ, zero, suc, _+_, _<_}
 use lib.Dec.{eqb, ltb}
 use Rattle.std.proofs.shelf.Tests.{cases-bool, cases-eq, eq-eqb, ne-eqb, cond-true, cond-false}
 use Rattle.std.specs.declared.option.Option.{Option}
-use Rattle.std.specs.declared.option.Option.the-variants.{Some, None}
+use Rattle.std.specs.declared.option.Option.the-variants.{Some}
 use Rattle.ways.specs.Map.{Map, Hop, Nowhere, To, hop}
 use Rattle.ways.specs.Ways.{Joined}
 use Rattle.ways.proofs.NextPlaces.{next-place}
@@ -20,7 +20,7 @@ use Rattle.cards.specs.Cards.{hintOf, cardOf}
 use Rattle.walking.specs.Walks.{Posts, asLine, asHint, asNear, goes, onward, travels, postsOf}
 use Rattle.walking.specs.General.{Rule, journey, ruleOf}
 use Rattle.walking.specs.declared.kinds.End.{End}
-use Rattle.walking.specs.declared.kinds.End.the-variants.{Arrived, Stuck, Worn}
+use Rattle.walking.specs.declared.kinds.End.the-variants.{Arrived, Stuck}
 use Rattle.posts.proofs.Finding.{post-some, post-none}
 
 -- ---- a walk by posts and a card is a journey by what they say

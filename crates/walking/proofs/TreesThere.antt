@@ -1,8 +1,8 @@
 -- The row and the star are trees: the sides of each road are given, and a test of all roads is computed. Assumes nothing.
-use mathlib.Core.Path.{_≡_, refl, sym, ap, _∙_}
+use mathlib.Core.Path.{_≡_, refl, sym}
 use mathlib.Core.Bool.{Bool, true, false, cond, _&&_, _||_, not}
-use mathlib.Core.Logic.{_⊎_, inl, inr}
-use Prim.Native.Nat.{ℕ, zero, suc, _+_, _<_, _≤_}
+use mathlib.Core.Logic.{inl, inr}
+use Prim.Native.Nat.{ℕ, _<_}
 use native.Mathlib.Omega.{arith}
 use lib.Dec.{eqb, ltb}
 use Rattle.std.proofs.shelf.Tests.{both-ways, not-true, eqb-true, and-parts, or-cases}
@@ -10,7 +10,8 @@ use Rattle.ways.specs.Map.{Map}
 use Rattle.ways.specs.Ways.{allBelow}
 use Rattle.ways.proofs.Hanging.{all-at}
 use Rattle.walking.specs.Trees.{Bridge, Tree}
-use Rattle.walking.specs.Cases.{priced, row, star, sameBool, Trees-there}
+use Rattle.walking.specs.SmallMaps.{priced, row, star}
+use Rattle.walking.specs.Cases.{sameBool, Trees-there}
 
 -- no road from a to e, or both on one side, or the bridge, there or back
 abbrev stays : Map → ℕ → ℕ → (ℕ → Bool) → ℕ → ℕ → Bool

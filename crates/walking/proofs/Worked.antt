@@ -1,19 +1,20 @@
 -- The worked cases hold: computed, all at once. Assumes nothing.
-use mathlib.Core.Path.{_≡_, refl, sym, ap, _∙_}
+use mathlib.Core.Path.{_≡_, refl, ap, _∙_}
 use mathlib.Core.Bool.{Bool, true, false, cond, _&&_, _||_}
 use mathlib.Core.List.{List, [], _∷_}
-use Prim.Native.Nat.{ℕ, zero, suc, _+_, _*_, _<_, _≤_}
+use Prim.Native.Nat.{ℕ}
 use native.Mathlib.Omega.{arith}
 use lib.Dec.{eqb}
-use Rattle.ways.specs.Map.{Map, within, lowest, firstOf}
-use Rattle.ways.specs.Ways.{BothWays, allBelow, countBelow}
+use Rattle.ways.specs.Map.{within, lowest, firstOf}
+use Rattle.ways.specs.Ways.{BothWays, allBelow}
 use Rattle.ways.proofs.Hanging.{hanging-together}
 use Rattle.landmarks.specs.Landmarks.{nearest}
 use Rattle.landmarks.proofs.Near.{lines-few}
 use Rattle.posts.specs.Posts.{linesOf}
 use Rattle.posts.proofs.Finding.{post-length}
 use Rattle.walking.specs.Walks.{travels}
-use Rattle.walking.specs.Cases.{Road, leads, priced, roadMap, flatRoads, flat, only, passed, sameList, allHold, noneNear, Cases-hold, Landmarks-everywhere, Nine-places, Thrice}
+use Rattle.walking.specs.SmallMaps.{Road, leads, priced, roadMap, flatRoads, flat, only}
+use Rattle.walking.specs.Cases.{passed, sameList, allHold, noneNear, Cases-hold, Landmarks-everywhere, Nine-places, Thrice}
 
 pub cases-hold : Cases-hold
 unfolding within lowest firstOf nearest linesOf travels priced passed sameList allHold

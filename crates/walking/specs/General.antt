@@ -10,15 +10,15 @@
 --   Guide     what the set and the landmark need so that one arrives
 --   Walked    a walk by a rule from u that ends at v
 use mathlib.Core.Path.{_≡_}
-use mathlib.Core.Bool.{Bool, true, false, cond}
+use mathlib.Core.Bool.{Bool, true, cond}
 use mathlib.Core.Logic.{_⊎_}
 use Prim.Native.Nat.{ℕ, zero, suc, _+_, _*_, _<_, _≤_}
 use lib.Dec.{eqb}
-use Rattle.ways.specs.Map.{Map, Far, At, far, Hop, To, hop}
+use Rattle.ways.specs.Map.{Map, At, far, Hop, To, hop}
 use Rattle.ways.specs.Ways.{Route, BothWays, Joined}
 use Rattle.walking.specs.Walks.{onward}
 use Rattle.walking.specs.declared.kinds.End.{End}
-use Rattle.walking.specs.declared.kinds.End.the-variants.{Arrived, Stuck, Worn}
+use Rattle.walking.specs.declared.kinds.End.the-variants.{Arrived, Worn}
 
 abbrev pub Rule : Type 0
 Rule = ℕ → Hop

@@ -1,8 +1,8 @@
 -- The promise of the whole: by the posts and the card of a map everybody arrives, and at which cost. Assumes nothing.
 use mathlib.Core.Path.{_≡_}
-use mathlib.Core.Bool.{Bool, true, false}
+use mathlib.Core.Bool.{true}
 use Prim.Native.Nat.{ℕ, _*_, _<_, _≤_}
-use Rattle.ways.specs.Map.{Map, Far, At, far}
+use Rattle.ways.specs.Map.{Map, At, far}
 use Rattle.ways.specs.Ways.{Route}
 use Rattle.landmarks.specs.Landmarks.{Marks, near, Sound}
 use Rattle.cards.specs.Cards.{cardOf}

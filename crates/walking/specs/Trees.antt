@@ -3,7 +3,7 @@ use mathlib.Core.Path.{_≡_}
 use mathlib.Core.Bool.{Bool, true, false}
 use mathlib.Core.Logic.{_⊎_}
 use Prim.Native.Nat.{ℕ, _<_}
-use Rattle.ways.specs.Map.{Map, Far, At, far}
+use Rattle.ways.specs.Map.{Map, At, far}
 use Rattle.ways.specs.Ways.{Joined}
 use Rattle.landmarks.specs.Landmarks.{Marks, Sound}
 use Rattle.cards.specs.Cards.{cardOf}
