@@ -8,12 +8,12 @@ use lib.Dec.{ltb}
 use Rattle.std.proofs.shelf.Tests.{cases-bool, cases-eq, ne-eqb, ltb-true}
 use Rattle.ways.specs.Map.{Map, Hop, Nowhere, To}
 use Rattle.walking.specs.Walks.{onward}
-use Rattle.walking.specs.General.{Rule, journey, Follow, there, on, Arrived-followed}
+use Rattle.walking.specs.General.{Rule, saying, journey, Follow, there, on, Arrived-followed}
 use Rattle.walking.specs.Promise.{Walks-ways}
 use Rattle.walking.specs.declared.kinds.End.{End}
 use Rattle.walking.specs.declared.kinds.End.the-variants.{Arrived, Stuck, Worn}
 use Rattle.walking.proofs.Following.{journey-stops, follow-route}
-use Rattle.walking.proofs.Saying.{saying, travels-journey}
+use Rattle.walking.proofs.Saying.{travels-journey}
 
 -- ---- the ends tell which step was the last
 arrived-same : (c d : ℕ) → Arrived c ≡ Arrived d → c ≡ d

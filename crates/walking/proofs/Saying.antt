@@ -18,15 +18,12 @@ use Rattle.posts.specs.Posts.{lineOf, postOf, findIn}
 use Rattle.cards.specs.declared.kinds.Card.{Card}
 use Rattle.cards.specs.Cards.{hintOf, cardOf}
 use Rattle.walking.specs.Walks.{Posts, asLine, asHint, asNear, goes, onward, travels, postsOf}
-use Rattle.walking.specs.General.{Rule, journey, ruleOf}
+use Rattle.walking.specs.General.{saying, journey, ruleOf}
 use Rattle.walking.specs.declared.kinds.End.{End}
 use Rattle.walking.specs.declared.kinds.End.the-variants.{Arrived, Stuck}
 use Rattle.posts.proofs.Finding.{post-some, post-none}
 
 -- ---- a walk by posts and a card is a journey by what they say
-abbrev pub saying : Posts → Card → Rule
-saying posts card u = goes (posts u) card u
-
 onward-like : (f g : ℕ → ℕ → End) (z : Map) (cost u : ℕ) (h : Hop) → ((c e : ℕ) → f c e ≡ g c e) → onward f z cost u h ≡ onward g z cost u h
 onward-like f g z cost u Nowhere same = refl
 onward-like f g z cost u (To e) same = ap (λ x. cond (ltb 0 (z .cost u e)) x (Stuck u)) (same (cost + z .cost u e) e)

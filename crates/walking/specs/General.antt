@@ -2,6 +2,7 @@
 --
 -- Glossary
 --   Rule      where one goes on, place by place
+--   saying    the rule of posts and a card: what they say
 --   journey   how a walk to v by a rule ends that may go so many roads more, from u, after roads of some cost
 --   ruleOf    the rule of a set of places and a landmark: from the places of the set towards v, and from the landmark too; from elsewhere
 --             towards the landmark
@@ -16,12 +17,16 @@ use Prim.Native.Nat.{ℕ, zero, suc, _+_, _*_, _<_, _≤_}
 use lib.Dec.{eqb}
 use Rattle.ways.specs.Map.{Map, At, far, Hop, To, hop}
 use Rattle.ways.specs.Ways.{Route, BothWays, Joined}
-use Rattle.walking.specs.Walks.{onward}
+use Rattle.cards.specs.declared.kinds.Card.{Card}
+use Rattle.walking.specs.Walks.{Posts, goes, onward}
 use Rattle.walking.specs.declared.kinds.End.{End}
 use Rattle.walking.specs.declared.kinds.End.the-variants.{Arrived, Worn}
 
 abbrev pub Rule : Type 0
 Rule = ℕ → Hop
+
+abbrev pub saying : Posts → Card → Rule
+saying posts card u = goes (posts u) card u
 
 unfoldable pub journey : ℕ → Map → Rule → ℕ → ℕ → ℕ → End
 journey zero z rule v cost u = Worn
@@ -54,7 +59,8 @@ Arrived-followed = (z : Map) (rule : Rule) (v k cost u c : ℕ) → Inside z →
 abbrev pub Followed-arrives : Type 0
 Followed-arrives = (z : Map) (rule : Rule) (v u c k : ℕ) → Follow z rule v u c k → Route z v u c k × ((j cost : ℕ) → k < j → journey j z rule v cost u ≡ Arrived (cost + c))
 
--- Once one is in the set one stays there all the way to v, and one step on from the landmark one is in it.
+-- Once one is in the set one stays there all the way to v, and one step on from the landmark one is in it. (If the landmark is v there is no
+-- such step; if the landmark is in the set, `stays` gives it.)
 pub record Guide (z : Map) (known : ℕ → Bool) (mark v : ℕ) : Type 0 where
   pub place : v < z .n
   pub landmark : mark < z .n

@@ -1,14 +1,14 @@
 -- The promise of the whole: by the posts and the card of a map everybody arrives, and at which cost. Assumes nothing.
 use mathlib.Core.Path.{_≡_}
 use mathlib.Core.Bool.{true}
-use Prim.Native.Nat.{ℕ, _*_, _<_, _≤_}
+use Prim.Native.Nat.{ℕ, _+_, _*_, _<_, _≤_}
 use Rattle.ways.specs.Map.{Map, At, far}
 use Rattle.ways.specs.Ways.{Route}
 use Rattle.landmarks.specs.Landmarks.{Marks, near, Sound}
 use Rattle.cards.specs.Cards.{cardOf}
 use Rattle.cards.specs.declared.kinds.Card.{Card}
 use Rattle.walking.specs.Walks.{Posts, walkOf, travels, postsOf}
-use Rattle.walking.specs.General.{Inside}
+use Rattle.walking.specs.General.{saying, Leads, Inside}
 use Rattle.walking.specs.declared.kinds.End.the-variants.{Arrived}
 
 -- The walk from u with the card of v, by the posts of the map.
@@ -18,9 +18,11 @@ pub record Whole (z : Map) (l : Marks) (u v : ℕ) : Type 0 where
   pub away : ℕ
   -- one arrives, within the budget of 2 n roads
   pub arrives : walkOf z (postsOf z l) (cardOf z l v) u ≡ Arrived cost
-  -- and in truth after so many roads, fewer than n: no place comes twice
+  -- and in truth after so many roads, fewer than n
   pub few : roads < z .n
   pub in-time : (k : ℕ) → roads < k → travels k z (postsOf z l) (cardOf z l v) 0 u ≡ Arrived cost
+  -- no place on the way comes twice
+  pub no-ring : (x i j : ℕ) → Leads (saying (postsOf z l) (cardOf z l v)) v x u i → Leads (saying (postsOf z l) (cardOf z l v)) v x x (1 + j) → ⊥
   -- what is walked is a way of the map, of just that cost
   pub way : Route z v u cost roads
   -- it costs at most three times the distance
