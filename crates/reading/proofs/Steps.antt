@@ -1,0 +1,184 @@
+use mathlib.Core.Path.{_≡_, refl, sym, ap, _∙_, subst}
+use mathlib.Core.List.{List, [], _∷_, _++_, map}
+use mathlib.Core.Bool.{Bool, true, false, cond}
+use Prim.Native.Nat.{ℕ, zero, suc, _+_, _-_, _<_, _≤_}
+use native.Mathlib.Omega.{arith}
+use Rattle.std.proofs.shelf.Lists.{append-assoc, append-nil, map-push}
+use Rattle.std.proofs.shelf.Parts.{pushed}
+use Rattle.std.specs.Results.{isOk}
+use Rattle.std.specs.declared.option.Option.{Option}
+use Rattle.std.specs.declared.option.Option.the-variants.{Some, None}
+use Rattle.std.specs.declared.result.Result.{Result}
+use Rattle.std.specs.declared.result.Result.the-variants.{Ok, Err}
+use Rattle.reading.specs.declared.kinds.Place.{Place}
+use Rattle.reading.specs.declared.kinds.Refusal.{Refusal}
+use Rattle.reading.specs.declared.kinds.Stop.{Stop}
+use Rattle.reading.specs.declared.kinds.Stop.the-variants.{Input, Memory}
+use lib.Dec.{eqb}
+use lib.ListN.{length}
+use Rattle.maps.specs.declared.kinds.Fault.the-variants.{Form}
+use Rattle.reading.specs.Reading.{Read, Got, Bad, then, both, many}
+use Rattle.reading.specs.Telling.{answer, stands, Told, Tells}
+
+-- what a reader's answer says of what is read
+pub got : {A : Type 0} (x : Read A) (at : Place) (a : A) (r : Result A Refusal) → r ≡ Ok a → r ≡ answer x → x ≡ Got a (stands x at)
+got (Got b p) at a r e f = let z : a ≡ b = cc in ap (λ v. Got v p) (sym z)
+got (Bad b) at a r e f = let z : _≡_ {A = ℕ} 0 1 = cc in absurd (omega arith)
+
+pub bad : {A : Type 0} (x : Read A) (d : Refusal) (r : Result A Refusal) → r ≡ Err d → r ≡ answer x → x ≡ Bad d
+bad (Got b p) d r e f = let z : _≡_ {A = ℕ} 0 1 = cc in absurd (omega arith)
+bad (Bad b) d r e f = let z : d ≡ b = cc in ap Bad (sym z)
+
+-- some elements, and then what is read
+abbrev pub onto : {A : Type 0} → List A → Read (List A) → Read (List A)
+onto xs r = then r (λ ys q. Got (xs ++ ys) q)
+
+onto-cons : {A : Type 0} (xs : List A) (a : A) (r : Read (List A))
+    → onto xs (then r (λ ys q. Got (a ∷ ys) q)) ≡ onto (xs ++ a ∷ []) r
+onto-cons xs a (Got ys q) = ap (λ z. Got z q) (sym (append-assoc xs (a ∷ []) ys))
+onto-cons xs a (Bad d) = refl
+
+pub onto-none : {A : Type 0} (r : Read (List A)) → onto [] r ≡ r
+onto-none (Got ys q) = refl
+onto-none (Bad d) = refl
+
+-- one turn of the loop: n - i are left
+pub many-more : {A : Type 0} (step : Option A → Place → Read A) (n i : ℕ) (last : Option A) (at : Place) (xs : List A) (a : A) (q : Place)
+    → i < n → step last at ≡ Got a q
+    → onto xs (many step (n - i) last at) ≡ onto (xs ++ a ∷ []) (many step (n - (i + 1)) (Some a) q)
+many-more step n i last at xs a q l e =
+    let k : n - i ≡ suc (n - (i + 1)) = omega arith in
+    ap (λ m. onto xs (many step m last at)) k
+    ∙ ap (λ r. onto xs (then r (λ b p. then (many step (n - (i + 1)) (Some b) p) (λ rest z. Got (b ∷ rest) z)))) e
+    ∙ onto-cons xs a (many step (n - (i + 1)) (Some a) q)
+
+pub many-bad : {A : Type 0} (step : Option A → Place → Read A) (n i : ℕ) (last : Option A) (at : Place) (xs : List A) (d : Refusal)
+    → i < n → step last at ≡ Bad d → onto xs (many step (n - i) last at) ≡ Bad d
+many-bad step n i last at xs d l e =
+    let k : n - i ≡ suc (n - (i + 1)) = omega arith in
+    ap (λ m. onto xs (many step m last at)) k
+    ∙ ap (λ r. onto xs (then r (λ b p. then (many step (n - (i + 1)) (Some b) p) (λ rest z. Got (b ∷ rest) z)))) e
+
+pub many-all : {A : Type 0} (step : Option A → Place → Read A) (n i : ℕ) (last : Option A) (at : Place) (xs : List A)
+    → n ≤ i → onto xs (many step (n - i) last at) ≡ Got xs at
+many-all step n i last at xs l =
+    let k : n - i ≡ 0 = omega arith in
+    ap (λ m. onto xs (many step m last at)) k ∙ ap (λ z. Got z at) (append-nil xs)
+
+-- what a reader that allocates tells, from what is read
+tells-ok : {A B : Type 0} (view : B → A) (x : Read A) (b : B) (at : Place) → x ≡ Got (view b) at → Tells view x (Ok b)
+tells-ok view x b at e = subst (λ y. Tells view y (Ok b)) (sym e) refl
+
+tells-bad : {A B : Type 0} (view : B → A) (x : Read A) (d : Refusal) → x ≡ Bad d → Tells view x (Err (Input d))
+tells-bad view x d e = subst (λ y. Tells view y (Err (Input d))) (sym e) refl
+
+tells-memory : {A B : Type 0} (view : B → A) (x : Read A) → Tells view x (Err Memory)
+tells-memory view (Got a q) = tt
+tells-memory view (Bad d) = tt
+
+err-not-ok : {A E X : Type 0} (r : Result A E) (e : E) → r ≡ Err e → isOk r ≡ true → X
+err-not-ok (Ok a) e p q = let z : _≡_ {A = ℕ} 0 1 = cc in absurd (omega arith)
+err-not-ok (Err d) e p q = let z : _≡_ {A = ℕ} 0 1 = cc in absurd (omega arith)
+
+pub told-ok : {A B : Type 0} (view : B → A) (x : Read A) (b : B) (at : Place) → x ≡ Got (view b) at → Told view x (Ok b) at
+told-ok view x b at e = (tells-ok view x b at e, λ _. ap (λ y. stands y at) (sym e))
+
+pub told-bad : {A B : Type 0} (view : B → A) (x : Read A) (at : Place) {r : Result B Stop} {e : Stop} {d : Refusal}
+    → x ≡ Bad d → r ≡ Err e → e ≡ Input d → Told view x r at
+told-bad {A} {B} view x at {r} {e} {d} h p q =
+    let z : r ≡ Err (Input d) = p ∙ ap (λ (w : Stop). Err w) q in
+    (subst (λ (w : Result B Stop). Tells view x w) (sym z) (tells-bad view x d h), err-not-ok r e p)
+
+pub told-memory : {A B : Type 0} (view : B → A) (x : Read A) (at : Place) {r : Result B Stop} {e : Stop}
+    → r ≡ Err e → e ≡ Memory → Told view x r at
+told-memory {A} {B} view x at {r} {e} p q =
+    let z : r ≡ Err Memory = p ∙ ap (λ (w : Stop). Err w) q in
+    (subst (λ (w : Result B Stop). Tells view x w) (sym z) (tells-memory view x), err-not-ok r e p)
+
+-- what was read, from what a reader told
+got-of : {A B : Type 0} (view : B → A) (x : Read A) (b : B) (at : Place) → Tells view x (Ok b) → at ≡ stands x at → x ≡ Got (view b) at
+got-of view (Got a q) b at h s = cc
+got-of view (Bad d) b at h s = absurd h
+
+pub told-got : {A B : Type 0} (view : B → A) (x : Read A) (at : Place) {r : Result B Stop} {b : B} → Told view x r at → r ≡ Ok b → x ≡ Got (view b) at
+told-got {A} {B} view x at {r} {b} h e =
+    got-of view x b at (subst (λ (w : Result B Stop). Tells view x w) e (h .0)) (h .1 (ap isOk e))
+
+-- an error is handed on
+on : {A B A′ B′ : Type 0} (view : B → A) (view′ : B′ → A′) (x : Read A) (k : A → Place → Read A′) (e : Stop)
+    → Tells view x (Err e) → Tells view′ (then x k) (Err e)
+on view view′ (Got a q) k (Input d) h = absurd h
+on view view′ (Got a q) k Memory h = tells-memory view′ (k a q)
+on view view′ (Bad r) k (Input d) h = h
+on view view′ (Bad r) k Memory h = tt
+
+pub handed-on : {A B A′ B′ : Type 0} (view : B → A) (view′ : B′ → A′) (x : Read A) (k : A → Place → Read A′) (at at′ : Place) {r : Result B Stop} {r′ : Result B′ Stop} {e e′ : Stop}
+    → Told view x r at → r ≡ Err e → r′ ≡ Err e′ → e′ ≡ e → Told view′ (then x k) r′ at′
+handed-on {A} {B} {A′} {B′} view view′ x k at at′ {r} {r′} {e} {e′} h p p′ q =
+    let z : r′ ≡ Err e = p′ ∙ ap (λ (w : Stop). Err w) q in
+    (subst (λ (w : Result B′ Stop). Tells view′ (then x k) w) (sym z)
+      (on view view′ x k e (subst (λ (w : Result B Stop). Tells view x w) p (h .0))), err-not-ok r′ e′ p′)
+
+-- A turn of a loop that reads by F and pushes: b is the input as the reader has it, b′ as it was at the start.
+pub turn : {A U E : Type 0} (F : List ℕ → Option A → Place → Read A) {b b′ : List ℕ} {n i : ℕ} (last : Option A) (at : Place) (xs : List A)
+    {at′ : Place} {ys : List A} {a : A} {r : Result A Refusal} {p : Result U E} {u : U} {whole : Read (List A)}
+    → i < n → b ≡ b′ → onto xs (many (F b′) (n - i) last at) ≡ whole
+    → r ≡ Ok a → r ≡ answer (F b last at) → at′ ≡ stands (F b last at) at
+    → p ≡ Ok u → ys ≡ cond (isOk p) (xs ++ a ∷ []) xs
+    → onto ys (many (F b′) (n - (i + 1)) (Some a) at′) ≡ whole
+turn {A} F {b} {b′} {n} {i} last at xs {at′} {ys} {a} {r} {p} l e inv was says stood ok items =
+    let g : F b last at ≡ Got a at′ = got (F b last at) at a r was says ∙ ap (λ z. Got a z) (sym stood) in
+    let h : F b′ last at ≡ Got a at′ = ap (λ (z : List ℕ). F z last at) (sym e) ∙ g in
+    let j : ys ≡ xs ++ a ∷ [] = pushed (a ∷ []) refl ok items in
+    ap (λ (z : List A). onto z (many (F b′) (n - (i + 1)) (Some a) at′)) j ∙ sym (many-more (F b′) n i last at xs a at′ l h) ∙ inv
+
+-- A turn that meets a refusal.
+pub stopped : {A : Type 0} (F : List ℕ → Option A → Place → Read A) {b b′ : List ℕ} {n i : ℕ} (last : Option A) (at : Place) (xs : List A)
+    {d : Refusal} {r : Result A Refusal} {whole : Read (List A)}
+    → i < n → b ≡ b′ → onto xs (many (F b′) (n - i) last at) ≡ whole
+    → r ≡ Err d → r ≡ answer (F b last at) → whole ≡ Bad d
+stopped {A} F {b} {b′} {n} {i} last at xs {d} {r} l e inv was says =
+    let h : F b′ last at ≡ Bad d = ap (λ (z : List ℕ). F z last at) (sym e) ∙ bad (F b last at) d r was says in
+    sym inv ∙ many-bad (F b′) n i last at xs d l h
+
+-- Where a step does not look at the one before it.
+many-free : {A : Type 0} (G : Place → Read A) (k : ℕ) (last last′ : Option A) (at : Place) → many (λ _. G) k last at ≡ many (λ _. G) k last′ at
+many-free G zero last last′ at = refl
+many-free G (suc k) last last′ at = refl
+
+-- A turn of a loop whose step allocates: v is what the step gave, x what it holds.
+pub turn-told : {A B C U E : Type 0} (F : List ℕ → Place → Read A) (view : B → A) (seen : C → A) {b b′ : List ℕ} {n i : ℕ} (at at′ : Place) (xs : List C) (v : B) (x : C)
+    {ys : List C} {r : Result B Stop} {p : Result U E} {u : U} {whole : Read (List A)}
+    → i < n → b ≡ b′ → onto (map seen xs) (many (λ _. F b′) (n - i) None at) ≡ whole
+    → r ≡ Ok v → Told view (F b at) r at′ → seen x ≡ view v
+    → p ≡ Ok u → ys ≡ cond (isOk p) (xs ++ x ∷ []) xs
+    → onto (map seen ys) (many (λ _. F b′) (n - (i + 1)) None at′) ≡ whole
+turn-told {A} {B} {C} F view seen {b} {b′} {n} {i} at at′ xs v x {ys} {r} {p} l e inv was says holds ok items =
+    let h : F b′ at ≡ Got (seen x) at′ = ap (λ (z : List ℕ). F z at) (sym e) ∙ told-got view (F b at) at′ says was ∙ ap (λ z. Got z at′) (sym holds) in
+    let j : map seen ys ≡ map seen xs ++ seen x ∷ [] = ap (map seen) (pushed (x ∷ []) refl ok items) ∙ map-push seen xs x in
+    ap (λ (z : List A). onto z (many (λ _. F b′) (n - (i + 1)) None at′)) j
+    ∙ ap (λ z. onto (map seen xs ++ seen x ∷ []) z) (many-free (F b′) (n - (i + 1)) None (Some (seen x)) at′)
+    ∙ sym (many-more (λ _. F b′) n i None at (map seen xs) (seen x) at′ l h) ∙ inv
+
+-- A turn whose step stops.
+bad-of : {A B : Type 0} (view : B → A) (x : Read A) (e : Stop) → Tells view x (Err e) → (d : Refusal) → e ≡ Input d → x ≡ Bad d
+bad-of view (Got a q) (Input r) h d k = absurd h
+bad-of view (Got a q) Memory h d k = let z : _≡_ {A = ℕ} 0 1 = cc in absurd (omega arith)
+bad-of view (Bad r) (Input s) h d k = cc
+bad-of view (Bad r) Memory h d k = let z : _≡_ {A = ℕ} 0 1 = cc in absurd (omega arith)
+
+stop-cases : {A B A′ B′ : Type 0} (view : B → A) (view′ : B′ → A′) (x : Read A) (y : Read A′) (e : Stop)
+    → Tells view x (Err e) → ((d : Refusal) → x ≡ Bad d → y ≡ Bad d) → Tells view′ y (Err e)
+stop-cases view view′ x y (Input d) h k = tells-bad view′ y d (k d (bad-of view x (Input d) h d refl))
+stop-cases view view′ x y Memory h k = tells-memory view′ y
+
+pub stopped-told : {A B D : Type 0} (F : List ℕ → Place → Read A) (view : B → A) (view′ : D → List A) {b b′ : List ℕ} {n i : ℕ} (at at′ at″ : Place) (xs : List A)
+    (whole : Read (List A)) {r : Result B Stop} {r′ : Result D Stop} {e e′ : Stop}
+    → i < n → b ≡ b′ → onto xs (many (λ _. F b′) (n - i) None at) ≡ whole
+    → r ≡ Err e → Told view (F b at) r at′ → r′ ≡ Err e′ → e′ ≡ e → Told view′ whole r′ at″
+stopped-told {A} {B} {D} F view view′ {b} {b′} {n} {i} at at′ at″ xs whole {r} {r′} {e} {e′} l eq inv was says was′ same =
+    let z : r′ ≡ Err e = was′ ∙ ap (λ (w : Stop). Err w) same in
+    let f = λ (d : Refusal) (h : F b at ≡ Bad d).
+          sym inv ∙ many-bad (λ _. F b′) n i None at xs d l (ap (λ (q : List ℕ). F q at) (sym eq) ∙ h) in
+    (subst (λ (w : Result D Stop). Tells view′ whole w) (sym z)
+      (stop-cases view view′ (F b at) whole e (subst (λ (w : Result B Stop). Tells view (F b at) w) was (says .0)) f), err-not-ok r′ e′ was′)
