@@ -1,9 +1,10 @@
+-- From what is read to what the code answers, and the turns of a loop that reads. Assumes nothing.
 use mathlib.Core.Path.{_≡_, refl, sym, ap, _∙_, subst}
-use mathlib.Core.List.{List, [], _∷_, _++_, map}
+use mathlib.Core.List.{List, [], _∷_, _++_}
 use mathlib.Core.Bool.{Bool, true, false, cond}
 use Prim.Native.Nat.{ℕ, zero, suc, _+_, _-_, _<_, _≤_}
 use native.Mathlib.Omega.{arith}
-use Rattle.std.proofs.shelf.Lists.{append-assoc, append-nil, map-push}
+use Rattle.std.proofs.shelf.Lists.{append-assoc, append-nil}
 use Rattle.std.proofs.shelf.Parts.{pushed}
 use Rattle.std.specs.Results.{isOk}
 use Rattle.std.specs.declared.option.Option.{Option}
@@ -14,10 +15,7 @@ use Rattle.reading.specs.declared.kinds.Place.{Place}
 use Rattle.reading.specs.declared.kinds.Refusal.{Refusal}
 use Rattle.reading.specs.declared.kinds.Stop.{Stop}
 use Rattle.reading.specs.declared.kinds.Stop.the-variants.{Input, Memory}
-use lib.Dec.{eqb}
-use lib.ListN.{length}
-use Rattle.maps.specs.declared.kinds.Fault.the-variants.{Form}
-use Rattle.reading.specs.Reading.{Read, Got, Bad, then, both, many}
+use Rattle.reading.specs.Reading.{Read, Got, Bad, then, many}
 use Rattle.reading.specs.Telling.{answer, stands, Told, Tells}
 
 -- what a reader's answer says of what is read
@@ -141,44 +139,7 @@ stopped {A} F {b} {b′} {n} {i} last at xs {d} {r} l e inv was says =
     let h : F b′ last at ≡ Bad d = ap (λ (z : List ℕ). F z last at) (sym e) ∙ bad (F b last at) d r was says in
     sym inv ∙ many-bad (F b′) n i last at xs d l h
 
--- Where a step does not look at the one before it.
-many-free : {A : Type 0} (G : Place → Read A) (k : ℕ) (last last′ : Option A) (at : Place) → many (λ _. G) k last at ≡ many (λ _. G) k last′ at
-many-free G zero last last′ at = refl
-many-free G (suc k) last last′ at = refl
-
--- A turn of a loop whose step allocates: v is what the step gave, x what it holds.
-pub turn-told : {A B C U E : Type 0} (F : List ℕ → Place → Read A) (view : B → A) (seen : C → A) {b b′ : List ℕ} {n i : ℕ} (at at′ : Place) (xs : List C) (v : B) (x : C)
-    {ys : List C} {r : Result B Stop} {p : Result U E} {u : U} {whole : Read (List A)}
-    → i < n → b ≡ b′ → onto (map seen xs) (many (λ _. F b′) (n - i) None at) ≡ whole
-    → r ≡ Ok v → Told view (F b at) r at′ → seen x ≡ view v
-    → p ≡ Ok u → ys ≡ cond (isOk p) (xs ++ x ∷ []) xs
-    → onto (map seen ys) (many (λ _. F b′) (n - (i + 1)) None at′) ≡ whole
-turn-told {A} {B} {C} F view seen {b} {b′} {n} {i} at at′ xs v x {ys} {r} {p} l e inv was says holds ok items =
-    let h : F b′ at ≡ Got (seen x) at′ = ap (λ (z : List ℕ). F z at) (sym e) ∙ told-got view (F b at) at′ says was ∙ ap (λ z. Got z at′) (sym holds) in
-    let j : map seen ys ≡ map seen xs ++ seen x ∷ [] = ap (map seen) (pushed (x ∷ []) refl ok items) ∙ map-push seen xs x in
-    ap (λ (z : List A). onto z (many (λ _. F b′) (n - (i + 1)) None at′)) j
-    ∙ ap (λ z. onto (map seen xs ++ seen x ∷ []) z) (many-free (F b′) (n - (i + 1)) None (Some (seen x)) at′)
-    ∙ sym (many-more (λ _. F b′) n i None at (map seen xs) (seen x) at′ l h) ∙ inv
-
--- A turn whose step stops.
-bad-of : {A B : Type 0} (view : B → A) (x : Read A) (e : Stop) → Tells view x (Err e) → (d : Refusal) → e ≡ Input d → x ≡ Bad d
-bad-of view (Got a q) (Input r) h d k = absurd h
-bad-of view (Got a q) Memory h d k = let z : _≡_ {A = ℕ} 0 1 = cc in absurd (omega arith)
-bad-of view (Bad r) (Input s) h d k = cc
-bad-of view (Bad r) Memory h d k = let z : _≡_ {A = ℕ} 0 1 = cc in absurd (omega arith)
-
-stop-cases : {A B A′ B′ : Type 0} (view : B → A) (view′ : B′ → A′) (x : Read A) (y : Read A′) (e : Stop)
-    → Tells view x (Err e) → ((d : Refusal) → x ≡ Bad d → y ≡ Bad d) → Tells view′ y (Err e)
-stop-cases view view′ x y (Input d) h k = tells-bad view′ y d (k d (bad-of view x (Input d) h d refl))
-stop-cases view view′ x y Memory h k = tells-memory view′ y
-
-pub stopped-told : {A B D : Type 0} (F : List ℕ → Place → Read A) (view : B → A) (view′ : D → List A) {b b′ : List ℕ} {n i : ℕ} (at at′ at″ : Place) (xs : List A)
-    (whole : Read (List A)) {r : Result B Stop} {r′ : Result D Stop} {e e′ : Stop}
-    → i < n → b ≡ b′ → onto xs (many (λ _. F b′) (n - i) None at) ≡ whole
-    → r ≡ Err e → Told view (F b at) r at′ → r′ ≡ Err e′ → e′ ≡ e → Told view′ whole r′ at″
-stopped-told {A} {B} {D} F view view′ {b} {b′} {n} {i} at at′ at″ xs whole {r} {r′} {e} {e′} l eq inv was says was′ same =
-    let z : r′ ≡ Err e = was′ ∙ ap (λ (w : Stop). Err w) same in
-    let f = λ (d : Refusal) (h : F b at ≡ Bad d).
-          sym inv ∙ many-bad (λ _. F b′) n i None at xs d l (ap (λ (q : List ℕ). F q at) (sym eq) ∙ h) in
-    (subst (λ (w : Result D Stop). Tells view′ whole w) (sym z)
-      (stop-cases view view′ (F b at) whole e (subst (λ (w : Result B Stop). Tells view (F b at) w) was (says .0)) f), err-not-ok r′ e′ was′)
+-- a value that is told was read
+pub tells-got : {A B : Type 0} (view : B → A) (x : Read A) (b : B) → Tells view x (Ok b) → (next : Place) × (x ≡ Got (view b) next)
+tells-got view (Got a q) b h = (q, ap (λ z. Got z q) (sym h))
+tells-got view (Bad d) b h = absurd h

@@ -3,3 +3,4 @@ pub mod kinds;
 pub mod reader;
 pub mod records;
 pub mod stops;
+pub mod writer;
