@@ -16,11 +16,7 @@ use Rattle.maps.specs.declared.kinds.Fault.the-variants.{Form}
 use Rattle.reading.specs.declared.kinds.Place.{Place}
 use Rattle.reading.specs.declared.kinds.Record.{Record}
 use Rattle.reading.specs.declared.kinds.Refusal.{Refusal}
-use Rattle.reading.specs.Reading.{Read, Got, Bad, Shape, then, both, one, judged, refuse, after, fresh, Bytes, Cut}
-
--- A value is read, and so many bytes with it.
-abbrev pub Reads : {A : Type 0} → Read A → A → ℕ → Type 0
-Reads x a byte = (next : Place) × (x ≡ Got a next) × (next .byte ≡ byte)
+use Rattle.reading.specs.Reading.{Read, Got, Bad, Shape, then, one, judged, refuse, after, Bytes, Cut, Reads}
 
 -- What is written is read, what is read was written, and what is cut is refused for its form. All three speak of what is left at a place.
 pub record Fits {A : Type 0} (read : List ℕ → Place → Read A) (write : A → List ℕ) (Valid : A → Type 0) : Type 0 where

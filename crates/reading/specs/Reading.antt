@@ -95,3 +95,7 @@ Bytes bs = (k : ℕ) → getD bs k 0 < 256
 abbrev pub Cut : {A : Type 0} → Read A → Type 0
 Cut (Got a at) = ⊥
 Cut (Bad refusal) = refusal .fault ≡ Form
+
+-- A value is read, up to a byte.
+abbrev pub Reads : {A : Type 0} → Read A → A → ℕ → Type 0
+Reads x a byte = (next : Place) × (x ≡ Got a next) × (next .byte ≡ byte)
