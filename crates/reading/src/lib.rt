@@ -2,5 +2,6 @@
 pub mod kinds;
 pub mod reader;
 pub mod records;
+pub mod roads;
 pub mod stops;
 pub mod writer;

@@ -1,0 +1,4 @@
+// Documents: maps, read from bytes and written to them.
+pub mod heads;
+pub mod kinds;
+pub mod map;
