@@ -1,12 +1,16 @@
 // The kind of a document and the first record of a map: what their bytes mean, and what is wrong with them.
 ghost use mathlib.Core.Path.{_≡_};
+ghost use Rattle.std.specs.Of.Vec.{vec-items};
+ghost use Rattle.reading.specs.Writing.{Wrote};
 ghost use Rattle.documents.specs.Kinds.{kindOf};
-ghost use Rattle.documents.specs.Maps.{headFault, headShape};
+ghost use Rattle.documents.specs.Maps.{headFault, headShape, headBytes};
+use std::alloc::AllocError;
 use maps::kinds::Fault;
 use maps::roads::fault_of_size;
 use reading::kinds::Record;
 use reading::reader::word_at;
 use reading::records::Recorded;
+use reading::writer::Put;
 use super::kinds::Kind;
 use super::kinds::MapHead;
 
@@ -56,5 +60,17 @@ pub impl Recorded for MapHead as HeadRecorded {
         ensures { λ r. ⌜ r ≡ headFault self ⌝ }
     {
         self.fault()
+    }
+}
+
+pub impl Put for MapHead as HeadPut {
+    ghost writes = { headBytes };
+
+    fn put(self, out: &mut Vec<u8>) -> Result<(), AllocError>
+        ensures { λ r. ⌜ Wrote (vec-items (now (out .entry))) (headBytes self) r (vec-items (now (out .exit))) ⌝ }
+    {
+        let [places_high, places_low] = self.places.to_be_bytes();
+        let [roads_high, roads_low] = self.roads.to_be_bytes();
+        out.extend_from_slice(&[self.kind, places_high, places_low, roads_high, roads_low])
     }
 }
