@@ -8,27 +8,30 @@ use lib.Dec.{eqb}
 use lib.ListN.{length}
 use Rattle.std.proofs.shelf.Lists.{append-nil, drop-all}
 use Rattle.std.proofs.shelf.Tests.{eqb-true, eq-eqb}
+use Rattle.std.specs.Vec.{made}
 use Rattle.std.specs.declared.option.Option.{Option}
 use Rattle.std.specs.declared.option.Option.the-variants.{Some, None}
+use Rattle.std.specs.declared.result.Result.{Result}
+use Rattle.std.specs.declared.result.Result.the-variants.{Ok, Err}
 use Rattle.maps.specs.declared.kinds.Fault.{Fault}
 use Rattle.maps.specs.declared.kinds.Fault.the-variants.{Form, Apart}
 use Rattle.maps.specs.Roads.{orElse}
 use Rattle.reading.specs.declared.kinds.Place.{Place}
-use Rattle.reading.specs.Reading.{Read, leftOver, start, Reads}
+use Rattle.reading.specs.Reading.{Read, leftOver, start, Bytes, Reads}
+use Rattle.reading.specs.declared.kinds.Stop.{Stop}
+use Rattle.reading.specs.Telling.{Tells}
+use Rattle.reading.proofs.Steps.{tells-got}
 use Rattle.reading.proofs.Series.{close-trip, close-back, close-cut}
-use Rattle.documents.specs.Maps.{Charted, readRoads, apart, writeMap}
+use Rattle.documents.specs.Maps.{Charted, readRoads, apart, lastFault, readWholeMap, writeMap}
 use Rattle.documents.specs.Laws.{Sound, Comes-back, Comes-back-whole, Goes-back, Goes-back-whole, Cut-is-told}
 use Rattle.documents.proofs.Charts.{SoundMap, chart-fits}
 
 from-start : {x : Read Charted} {m : Charted} (k : ℕ) → Reads x m (0 + k) → Reads x m k
 from-start k r = let e = r .2 in (r .0, r .1, omega arith)
 
--- what is told at the end of a map, where something else may follow, and where nothing may
+-- what is told at the end of a map that something else may follow
 abbrev end-fault : List ℕ → Charted → Place → Option Fault
 end-fault bytes m p = apart m
-
-abbrev whole-fault : List ℕ → Charted → Place → Option Fault
-whole-fault bytes m p = orElse (leftOver bytes p) (apart m)
 
 none-true : (f : Fault) (b : Bool) → cond b None (Some f) ≡ None → b ≡ true
 none-true f true e = refl
@@ -49,7 +52,7 @@ comes-back m v rest =
 pub comes-back-whole : Comes-back-whole
 comes-back-whole m v =
     from-start (length (writeMap m))
-      (close-trip readRoads writeMap SoundMap chart-fits whole-fault (writeMap m) [] start m (v .roads)
+      (close-trip readRoads writeMap SoundMap chart-fits lastFault (writeMap m) [] start m (v .roads)
         (λ p e.
           ap (λ (b : Bool). orElse (cond b None (Some Form)) (apart m)) (eq-eqb (p .byte) (length (writeMap m)) (omega arith))
           ∙ fair m v)
@@ -62,7 +65,7 @@ goes-back bytes all m next e =
 
 pub goes-back-whole : Goes-back-whole
 goes-back-whole bytes all m next e =
-    let b = close-back readRoads writeMap SoundMap chart-fits whole-fault bytes all start next m e in
+    let b = close-back readRoads writeMap SoundMap chart-fits lastFault bytes all start next m e in
     let n = neither (leftOver bytes (b .2)) (apart m) (b .3) in
     let ends : b .2 .byte ≡ length bytes = eqb-true (b .2 .byte) (length bytes) (none-true Form _ (n .0)) in
     let h = b .4 in
@@ -72,4 +75,10 @@ goes-back-whole bytes all m next e =
 pub cut-is-told : Cut-is-told
 cut-is-told m v front back e l =
     (close-cut readRoads writeMap SoundMap chart-fits end-fault front front back start m (v .roads) refl e l,
-    close-cut readRoads writeMap SoundMap chart-fits whole-fault front front back start m (v .roads) refl e l)
+    close-cut readRoads writeMap SoundMap chart-fits lastFault front front back start m (v .roads) refl e l)
+
+-- what the code tells, written again
+pub written-again : {B : Type 0} (view : B → Charted) (bytes : List ℕ) → Bytes bytes → (r : Result B Stop) → Tells view (readWholeMap bytes) r
+    → made r (λ m. bytes ≡ writeMap (view m))
+written-again view bytes all (Ok m) t = let g = tells-got view (readWholeMap bytes) m t in goes-back-whole bytes all (view m) (g .0) (g .1) .1
+written-again view bytes all (Err e) t = tt

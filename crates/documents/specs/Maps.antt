@@ -6,7 +6,8 @@
 --   readRoads      the first record and the roads
 --   apart          what is wrong with a map that doesn't hang together
 --   readMap        a map that something else may follow: at its end it is told if it is apart
---   readWholeMap   a map that is the whole input: bytes left over are told first
+--   readLastMap    a map with which the input has to end: bytes left over are told at its end too, and first
+--   readWholeMap   a map that is the whole input
 --   writeMap       the bytes of a map
 use mathlib.Core.List.{List, [], _∷_, _++_}
 use mathlib.Core.Bool.{cond, not}
@@ -52,8 +53,14 @@ apart m = cond (hangsTogether (mapOf (m .places) (m .roads))) None (Some Apart)
 abbrev pub readMap : List ℕ → Place → Read Charted
 readMap bytes at = then (readRoads bytes at) (λ m p. closed (apart m) m p)
 
+abbrev pub lastFault : List ℕ → Charted → Place → Option Fault
+lastFault bytes m p = orElse (leftOver bytes p) (apart m)
+
+abbrev pub readLastMap : List ℕ → Place → Read Charted
+readLastMap bytes at = then (readRoads bytes at) (λ m p. closed (lastFault bytes m p) m p)
+
 abbrev pub readWholeMap : List ℕ → Read Charted
-readWholeMap bytes = then (readRoads bytes start) (λ m p. closed (orElse (leftOver bytes p) (apart m)) m p)
+readWholeMap bytes = readLastMap bytes start
 
 abbrev pub headBytes : MapHead → List ℕ
 headBytes h = h .kind ∷ bytesOf (h .places) ++ bytesOf (h .roads)

@@ -143,3 +143,8 @@ stopped {A} F {b} {b′} {n} {i} last at xs {d} {r} l e inv was says =
 pub tells-got : {A B : Type 0} (view : B → A) (x : Read A) (b : B) → Tells view x (Ok b) → (next : Place) × (x ≡ Got (view b) next)
 tells-got view (Got a q) b h = (q, ap (λ z. Got z q) (sym h))
 tells-got view (Bad d) b h = absurd h
+
+-- the same input from the same place
+pub retold : {A B : Type 0} (view : B → A) (F : List ℕ → Place → Read A) (b b′ : List ℕ) (at at′ : Place) (r : Result B Stop)
+    → b ≡ b′ → at ≡ at′ → Tells view (F b at) r → Tells view (F b′ at′) r
+retold view F b b′ at at′ r e f h = subst (λ x. Tells view x r) (ap (λ (z : List ℕ). F z at) e ∙ ap (λ (z : Place). F b′ z) f) h
