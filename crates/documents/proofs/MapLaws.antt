@@ -16,12 +16,13 @@ use Rattle.std.specs.declared.result.Result.the-variants.{Ok, Err}
 use Rattle.maps.specs.declared.kinds.Fault.{Fault}
 use Rattle.maps.specs.declared.kinds.Fault.the-variants.{Form, Apart}
 use Rattle.maps.specs.Roads.{orElse}
+use Rattle.maps.proofs.RoadLists.{or-none}
 use Rattle.reading.specs.declared.kinds.Place.{Place}
 use Rattle.reading.specs.Reading.{Read, leftOver, start, Bytes, Reads}
 use Rattle.reading.specs.declared.kinds.Stop.{Stop}
 use Rattle.reading.specs.Telling.{Tells}
 use Rattle.reading.proofs.Steps.{tells-got}
-use Rattle.reading.proofs.Series.{close-trip, close-back, close-cut}
+use Rattle.reading.proofs.Closing.{close-trip, close-back, close-cut}
 use Rattle.documents.specs.Maps.{Charted, readRoads, apart, lastFault, readWholeMap, writeMap}
 use Rattle.documents.specs.Laws.{Sound, Comes-back, Comes-back-whole, Goes-back, Goes-back-whole, Cut-is-told}
 use Rattle.documents.proofs.Charts.{SoundMap, chart-fits}
@@ -36,10 +37,6 @@ end-fault bytes m p = apart m
 none-true : (f : Fault) (b : Bool) → cond b None (Some f) ≡ None → b ≡ true
 none-true f true e = refl
 none-true f false e = let z : _≡_ {A = ℕ} 0 1 = cc in absurd (omega arith)
-
-neither : (x y : Option Fault) → orElse x y ≡ None → (x ≡ None) × (y ≡ None)
-neither None y e = (refl, e)
-neither (Some f) y e = let z : _≡_ {A = ℕ} 0 1 = cc in absurd (omega arith)
 
 fair : (m : Charted) → Sound m → apart m ≡ None
 fair m v = ap (λ (b : Bool). cond b None (Some Apart)) (v .whole)
@@ -66,7 +63,7 @@ goes-back bytes all m next e =
 pub goes-back-whole : Goes-back-whole
 goes-back-whole bytes all m next e =
     let b = close-back readRoads writeMap SoundMap chart-fits lastFault bytes all start next m e in
-    let n = neither (leftOver bytes (b .2)) (apart m) (b .3) in
+    let n = or-none (leftOver bytes (b .2)) (apart m) (b .3) in
     let ends : b .2 .byte ≡ length bytes = eqb-true (b .2 .byte) (length bytes) (none-true Form _ (n .0)) in
     let h = b .4 in
     (record { roads = b .0; whole = none-true Apart _ (n .1) },

@@ -50,6 +50,16 @@ cond-got : {A : Type 0} (b : Bool) (r : Refusal) (y : Read A) (a : A) (next : Pl
 cond-got true r y a next e = let z : _≡_ {A = ℕ} 0 1 = cc in absurd (omega arith)
 cond-got false r y a next e = (refl, e)
 
+-- a record that is read has no fault
+pub one-faultless : {A : Type 0} (shape : Shape A) (n : ℕ) (bytes : List ℕ) (last : Option A) (at next : Place) (a : A)
+    → one shape n bytes last at ≡ Got a next → shape .fault n last a ≡ None
+one-faultless shape n bytes last at next a e =
+    let v = shape .value (take (shape .size) (drop (at .byte) bytes)) in
+    let p = cond-got (ltb (length bytes) (at .byte + shape .size)) (record { fault = Form; «record» = shape .sort; at = at })
+          (judged (shape .fault n last v) (shape .sort) v at (after at (shape .size))) a next e in
+    let j = judged-got (shape .fault n last v) (shape .sort) v a at (after at (shape .size)) next (p .1) in
+    ap (λ z. shape .fault n last z) (sym (j .1)) ∙ j .0
+
 -- One record.
 module _ {A : Type 0} (shape : Shape A) (n : ℕ) (last : Option A) (write : A → List ℕ) (Valid : A → Type 0) (w : Written shape n last write Valid) where
 

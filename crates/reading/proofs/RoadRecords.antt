@@ -4,18 +4,17 @@ use mathlib.Core.List.{[], _∷_}
 use Prim.Native.Nat.{ℕ}
 use native.Mathlib.Omega.{arith}
 use lib.ListN.{length, getD}
-use Rattle.std.proofs.shelf.Tests.{or-parts, or-from, not-false, not-from-true, lt-leb, leb-false, ne-eqb}
 use Rattle.std.specs.Joined.{joined}
 use Rattle.std.specs.declared.option.Option.{Option}
 use Rattle.std.specs.declared.option.Option.the-variants.{None}
-use Rattle.maps.specs.declared.kinds.Fault.the-variants.{Range, Order, Cost}
 use Rattle.maps.specs.declared.kinds.Road.{Road}
 use Rattle.maps.specs.Roads.{Each, SoundRoad}
+use Rattle.maps.proofs.RoadLists.{road-sound, sound-road}
 use Rattle.reading.specs.Reading.{one, many}
-use Rattle.reading.specs.Roads.{roadShape, roadBytes}
+use Rattle.reading.specs.Roads.{roadOf, roadShape, roadBytes}
 use Rattle.reading.proofs.Fitting.{Fits, Written, one-fits}
 use Rattle.reading.proofs.Series.{many-fits}
-use Rattle.reading.proofs.Decoded.{spread-all, word-bytes, bytes-word, passed, pass, positive}
+use Rattle.reading.proofs.Decoded.{spread-all, word-bytes, bytes-word}
 
 -- a road from its fields
 road-is : (r : Road) {a b c : ℕ} → a ≡ r .from → b ≡ r .to → c ≡ r .cost → record { from = a; to = b; cost = c } ≡ r
@@ -27,17 +26,8 @@ road-written n last = record {
     some = omega arith;
     wide = λ r. refl;
     told = λ r v. road-is r (word-bytes (r .from)) (word-bytes (r .to)) (word-bytes (r .cost));
-    fair = λ r v.
-      let u = v .upward in let t = v .there in let k = v .costs in
-      pass _ Range _ (or-from _ _ (or-from _ _ (lt-leb n (r .from) (omega arith)) (lt-leb n (r .to) (omega arith))) (lt-leb (r .to) (r .from) (omega arith)))
-        (pass _ Order _ (not-from-true _ (v .later)) (pass _ Cost None (ne-eqb (r .cost) 0 (λ e. omega arith)) refl));
-    sure = λ bs l small e.
-      let x = passed _ Range _ e in
-      let y = passed _ Order _ (x .1) in
-      let z = passed _ Cost None (y .1) in
-      let o = or-parts _ _ (x .0) in
-      let o′ = or-parts _ _ (o .0) in
-      record { upward = leb-false _ _ (o .1); there = leb-false _ _ (o′ .1); later = not-false _ (y .0); costs = positive _ (z .0) };
+    fair = sound-road n last;
+    sure = λ bs l small e. road-sound n last (roadOf bs) e;
     same = λ bs l small.
       bytes-word (getD bs 0 0) (getD bs 1 0) _ (small 0 (omega arith)) (small 1 (omega arith))
       ∙ ap (λ z. getD bs 0 0 ∷ getD bs 1 0 ∷ z) (bytes-word (getD bs 2 0) (getD bs 3 0) _ (small 2 (omega arith)) (small 3 (omega arith)))

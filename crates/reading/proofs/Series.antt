@@ -8,11 +8,10 @@ use lib.ListN.{length, drop}
 use Rattle.std.proofs.shelf.Lists.{append-assoc, length-append}
 use Rattle.std.specs.Joined.{joined}
 use Rattle.std.specs.declared.option.Option.{Option}
-use Rattle.std.specs.declared.option.Option.the-variants.{Some, None}
+use Rattle.std.specs.declared.option.Option.the-variants.{Some}
 use Rattle.maps.specs.Roads.{Each}
-use Rattle.maps.specs.declared.kinds.Fault.{Fault}
 use Rattle.reading.specs.declared.kinds.Place.{Place}
-use Rattle.reading.specs.Reading.{Read, Got, Bad, then, both, many, fresh, closed, Bytes, Cut, Reads}
+use Rattle.reading.specs.Reading.{Read, Got, then, both, many, fresh, Bytes, Cut, Reads}
 use Rattle.reading.proofs.Fitting.{Fits, past, then-got, then-cut, parted}
 
 -- the bytes of two things
@@ -139,33 +138,15 @@ module _ {A : Type 0} (F : List ℕ → Option A → Place → Read A) (write : 
       back = λ bytes all at next xs e. many-back k last bytes all at next xs e;
       cut = λ bytes s t at xs v e h l. subst (λ n. Cut (many (F bytes) n last at)) (v .0) (many-cut xs last bytes s t at (v .1) e h l) }
 
--- A thing, and the end of the document, where the whole is judged.
-closed-got : {A : Type 0} (f : Option Fault) (v a : A) (p next : Place) → closed f v p ≡ Got a next → (f ≡ None) × (v ≡ a) × (fresh p ≡ next)
-closed-got None v a p next e = (refl, cc, cc)
-closed-got (Some f) v a p next e = let z : _≡_ {A = ℕ} 0 1 = cc in absurd (omega arith)
-
-module _ {A : Type 0} (r : List ℕ → Place → Read A) (write : A → List ℕ) (Valid : A → Type 0) (fits : Fits r write Valid) (fault : List ℕ → A → Place → Option Fault) where
-
-  pub close-trip : (bytes rest : List ℕ) (at : Place) (a : A) → Valid a → ((p : Place) → p .byte ≡ at .byte + length (write a) → fault bytes a p ≡ None)
-      → drop (at .byte) bytes ≡ write a ++ rest
-      → Reads (then (r bytes at) (λ b p. closed (fault bytes b p) b p)) a (at .byte + length (write a))
-  close-trip bytes rest at a v fair e =
-      let x = fits .trip bytes rest at a v e in
-      (fresh (x .0), ap (λ z. then z (λ b p. closed (fault bytes b p) b p)) (x .1) ∙ ap (λ f. closed f a (x .0)) (fair (x .0) (x .2)), x .2)
-
-  pub close-back : (bytes : List ℕ) → Bytes bytes → (at next : Place) (a : A) → then (r bytes at) (λ b p. closed (fault bytes b p) b p) ≡ Got a next
-      → Valid a × (drop (at .byte) bytes ≡ write a ++ drop (next .byte) bytes) × (p : Place) × (fault bytes a p ≡ None) × (p .byte ≡ next .byte)
-  close-back bytes all at next a e =
-      let x = then-got (r bytes at) (λ b p. closed (fault bytes b p) b p) a next e in
-      let y = closed-got (fault bytes (x .0) (x .1)) (x .0) a (x .1) next (x .3) in
-      let p = fits .back bytes all at (x .1) (x .0) (x .2) in
-      let ends : x .1 .byte ≡ next .byte = ap (λ (q : Place). q .byte) (y .2) in
-      (subst Valid (y .1) (p .0),
-      p .1 ∙ ap (λ z. write z ++ drop (x .1 .byte) bytes) (y .1) ∙ ap (λ k. write a ++ drop k bytes) ends,
-      x .1,
-      ap (λ z. fault bytes z (x .1)) (sym (y .1)) ∙ y .0,
-      ends)
-
-  pub close-cut : (bytes s t : List ℕ) (at : Place) (a : A) → Valid a → drop (at .byte) bytes ≡ s → write a ≡ s ++ t → 0 < length t
-      → Cut (then (r bytes at) (λ b p. closed (fault bytes b p) b p))
-  close-cut bytes s t at a v e k l = then-cut (r bytes at) (λ b p. closed (fault bytes b p) b p) (fits .cut bytes s t at a v e k l)
+-- what holds of each that is read holds of all
+pub many-each : {A : Type 0} (F : Option A → Place → Read A) (P : Option A → A → Type 0)
+    → ((last : Option A) (at next : Place) (a : A) → F last at ≡ Got a next → P last a)
+    → (k : ℕ) (last : Option A) (at next : Place) (xs : List A) → many F k last at ≡ Got xs next → (length xs ≡ k) × Each P last xs
+many-each F P h zero last at next [] e = (refl, tt)
+many-each F P h zero last at next (a ∷ xs) e = let z : _≡_ {A = ℕ} 0 1 = cc in absurd (omega arith)
+many-each {A} F P h (suc k) last at next xs e =
+    let x = then-got (F last at) (λ a p. then (many F k (Some a) p) (λ rest q. Got (a ∷ rest) q)) xs next e in
+    let y = then-got (many F k (Some (x .0)) (x .1)) (λ ys q. Got (x .0 ∷ ys) q) xs next (x .3) in
+    let q = many-each F P h k (Some (x .0)) (x .1) (y .1) (y .0) (y .2) in
+    let same : x .0 ∷ y .0 ≡ xs = let z = y .3 in cc in
+    subst (λ (zs : List A). (length zs ≡ suc k) × Each P last zs) same (ap suc (q .0), (h last at (x .1) (x .0) (x .2), q .1))

@@ -57,65 +57,19 @@ many-bad step n i last at xs d l e =
     ap (λ m. onto xs (many step m last at)) k
     ∙ ap (λ r. onto xs (then r (λ b p. then (many step (n - (i + 1)) (Some b) p) (λ rest z. Got (b ∷ rest) z)))) e
 
-pub many-all : {A : Type 0} (step : Option A → Place → Read A) (n i : ℕ) (last : Option A) (at : Place) (xs : List A)
-    → n ≤ i → onto xs (many step (n - i) last at) ≡ Got xs at
-many-all step n i last at xs l =
-    let k : n - i ≡ 0 = omega arith in
-    ap (λ m. onto xs (many step m last at)) k ∙ ap (λ z. Got z at) (append-nil xs)
-
 -- what a reader that allocates tells, from what is read
-tells-ok : {A B : Type 0} (view : B → A) (x : Read A) (b : B) (at : Place) → x ≡ Got (view b) at → Tells view x (Ok b)
-tells-ok view x b at e = subst (λ y. Tells view y (Ok b)) (sym e) refl
-
 tells-bad : {A B : Type 0} (view : B → A) (x : Read A) (d : Refusal) → x ≡ Bad d → Tells view x (Err (Input d))
 tells-bad view x d e = subst (λ y. Tells view y (Err (Input d))) (sym e) refl
-
-tells-memory : {A B : Type 0} (view : B → A) (x : Read A) → Tells view x (Err Memory)
-tells-memory view (Got a q) = tt
-tells-memory view (Bad d) = tt
 
 err-not-ok : {A E X : Type 0} (r : Result A E) (e : E) → r ≡ Err e → isOk r ≡ true → X
 err-not-ok (Ok a) e p q = let z : _≡_ {A = ℕ} 0 1 = cc in absurd (omega arith)
 err-not-ok (Err d) e p q = let z : _≡_ {A = ℕ} 0 1 = cc in absurd (omega arith)
-
-pub told-ok : {A B : Type 0} (view : B → A) (x : Read A) (b : B) (at : Place) → x ≡ Got (view b) at → Told view x (Ok b) at
-told-ok view x b at e = (tells-ok view x b at e, λ _. ap (λ y. stands y at) (sym e))
 
 pub told-bad : {A B : Type 0} (view : B → A) (x : Read A) (at : Place) {r : Result B Stop} {e : Stop} {d : Refusal}
     → x ≡ Bad d → r ≡ Err e → e ≡ Input d → Told view x r at
 told-bad {A} {B} view x at {r} {e} {d} h p q =
     let z : r ≡ Err (Input d) = p ∙ ap (λ (w : Stop). Err w) q in
     (subst (λ (w : Result B Stop). Tells view x w) (sym z) (tells-bad view x d h), err-not-ok r e p)
-
-pub told-memory : {A B : Type 0} (view : B → A) (x : Read A) (at : Place) {r : Result B Stop} {e : Stop}
-    → r ≡ Err e → e ≡ Memory → Told view x r at
-told-memory {A} {B} view x at {r} {e} p q =
-    let z : r ≡ Err Memory = p ∙ ap (λ (w : Stop). Err w) q in
-    (subst (λ (w : Result B Stop). Tells view x w) (sym z) (tells-memory view x), err-not-ok r e p)
-
--- what was read, from what a reader told
-got-of : {A B : Type 0} (view : B → A) (x : Read A) (b : B) (at : Place) → Tells view x (Ok b) → at ≡ stands x at → x ≡ Got (view b) at
-got-of view (Got a q) b at h s = cc
-got-of view (Bad d) b at h s = absurd h
-
-pub told-got : {A B : Type 0} (view : B → A) (x : Read A) (at : Place) {r : Result B Stop} {b : B} → Told view x r at → r ≡ Ok b → x ≡ Got (view b) at
-told-got {A} {B} view x at {r} {b} h e =
-    got-of view x b at (subst (λ (w : Result B Stop). Tells view x w) e (h .0)) (h .1 (ap isOk e))
-
--- an error is handed on
-on : {A B A′ B′ : Type 0} (view : B → A) (view′ : B′ → A′) (x : Read A) (k : A → Place → Read A′) (e : Stop)
-    → Tells view x (Err e) → Tells view′ (then x k) (Err e)
-on view view′ (Got a q) k (Input d) h = absurd h
-on view view′ (Got a q) k Memory h = tells-memory view′ (k a q)
-on view view′ (Bad r) k (Input d) h = h
-on view view′ (Bad r) k Memory h = tt
-
-pub handed-on : {A B A′ B′ : Type 0} (view : B → A) (view′ : B′ → A′) (x : Read A) (k : A → Place → Read A′) (at at′ : Place) {r : Result B Stop} {r′ : Result B′ Stop} {e e′ : Stop}
-    → Told view x r at → r ≡ Err e → r′ ≡ Err e′ → e′ ≡ e → Told view′ (then x k) r′ at′
-handed-on {A} {B} {A′} {B′} view view′ x k at at′ {r} {r′} {e} {e′} h p p′ q =
-    let z : r′ ≡ Err e = p′ ∙ ap (λ (w : Stop). Err w) q in
-    (subst (λ (w : Result B′ Stop). Tells view′ (then x k) w) (sym z)
-      (on view view′ x k e (subst (λ (w : Result B Stop). Tells view x w) p (h .0))), err-not-ok r′ e′ p′)
 
 -- A turn of a loop that reads by F and pushes: b is the input as the reader has it, b′ as it was at the start.
 pub turn : {A U E : Type 0} (F : List ℕ → Option A → Place → Read A) {b b′ : List ℕ} {n i : ℕ} (last : Option A) (at : Place) (xs : List A)
