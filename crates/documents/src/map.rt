@@ -3,6 +3,8 @@ ghost use mathlib.Core.Path.{_≡_};
 ghost use Prim.Native.Nat.{_≤_};
 ghost use Rattle.std.specs.Of.Vec.{vec-len, vec-items};
 ghost use Rattle.std.specs.Vec.{made};
+ghost use Rattle.std.specs.declared.option.Option.the-variants.{None};
+ghost use Rattle.maps.specs.Roads.{mapFault};
 ghost use Rattle.reading.specs.Telling.{Tells, Told};
 ghost use Rattle.reading.specs.Writing.{Wrote};
 ghost use Rattle.documents.specs.Maps.{readRoads, readMap, readLastMap, readWholeMap, apart, lastFault, writeMap};
@@ -30,6 +32,7 @@ use super::kinds::MapHead;
 pub fn roads_at(heap: Global, from: &mut Reader<'_>) -> Result<Chart, Stop>
     ensures told { λ r. ⌜ Told charted (readRoads (now (now (from .entry) .bytes)) (now (from .entry) .at)) r (now (from .exit) .at) ⌝ }
     ensures same { λ r. ⌜ now (now (from .exit) .bytes) ≡ now (now (from .entry) .bytes) ⌝ }
+    ensures sound { λ r. ⌜ made r (λ m. mapFault (m .places) (vec-items (m .roads)) ≡ None) ⌝ }
 {
     let head = read_record::<MapHead>(from, 0, None)?;
     from.begin();
