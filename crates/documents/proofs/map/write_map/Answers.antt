@@ -1,5 +1,5 @@
 -- A map is written, or what was written of it is taken back. Assumes nothing.
-use mathlib.Core.Path.{_≡_, ap, _∙_}
+use mathlib.Core.Path.{_≡_, _∙_, subst}
 use mathlib.Core.List.{List, _++_}
 use Prim.Native.Nat.{ℕ}
 use lib.ListN.{length}
@@ -21,7 +21,10 @@ pub returns : need.returns
 returns c =
     let m = c .args .map .now in
     let old = vec-items (c .args .out .now) in
-    let long : c .len .result ≡ length (vec-items (m .roads)) = c .len .ensures ∙ m .roads .ok .0 in
-    wrote old (headBytes (headIn (charted m))) (joined roadBytes (vec-items (m .roads)))
-      (c .in-Continue-put .ensures tt ∙ ap (λ (k : ℕ). old ++ headBytes (record { kind = 1; places = m .places; roads = k })) long)
-      (c .in-rest .ensures tt ∙ ap (λ (xs : List Road). vec-items (c .put .last .out) ++ joined roadBytes xs) (c .as-slice .ensures .value))
+    let roads = vec-items (m .roads) in
+    let long : c .len .result ≡ length roads = c .len .ensures ∙ m .roads .ok .0 in
+    let first : vec-items (c .put .last .out) ≡ old ++ headBytes (record { kind = 1; places = m .places; roads = c .len .result }) = c .in-Continue-put .ensures tt in
+    let others : vec-items (c .put-all .last .out) ≡ vec-items (c .put .last .out) ++ joined roadBytes (c .as-slice .result .now) = c .in-rest .ensures tt in
+    wrote old (headBytes (headIn (charted m))) (joined roadBytes roads)
+      (subst (λ (k : ℕ). vec-items (c .put .last .out) ≡ old ++ headBytes (record { kind = 1; places = m .places; roads = k })) long first)
+      (subst (λ (xs : List Road). vec-items (c .put-all .last .out) ≡ vec-items (c .put .last .out) ++ joined roadBytes xs) (c .as-slice .ensures .value) others)
