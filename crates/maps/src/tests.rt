@@ -2,6 +2,8 @@
 use super::buf::RoadMapBuf;
 use super::faults::FaultFromAlloc;
 use super::kinds::Fault;
+use super::kinds::FaultDebug;
+use super::kinds::FaultPartialEq;
 use super::kinds::Road;
 use super::map::RoadMap;
 use std::alloc::Global;
