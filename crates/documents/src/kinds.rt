@@ -1,5 +1,4 @@
-// The kinds of documents, and what a map document is made of.
-use maps::kinds::Road;
+// The kinds of documents, and the first record of a map.
 
 /// The kinds of documents.
 #[derive(Clone, Copy, PartialEq, Eq, Debug)]
@@ -20,11 +19,4 @@ pub struct MapHead {
     pub kind: u8,
     pub places: u16,
     pub roads: u16,
-}
-
-/// A map as it is written: how many places it has, and its roads.
-#[derive(Drop)]
-pub struct Chart {
-    pub places: u16,
-    pub roads: Vec<Road>,
 }

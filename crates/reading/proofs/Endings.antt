@@ -13,7 +13,7 @@ use Rattle.reading.specs.declared.kinds.Place.{Place}
 use Rattle.reading.specs.declared.kinds.Refusal.{Refusal}
 use Rattle.reading.specs.declared.kinds.Stop.{Stop}
 use Rattle.reading.specs.declared.kinds.Stop.the-variants.{Input, Memory}
-use Rattle.reading.specs.Reading.{Read, Got, Bad, then, closed, fresh}
+use Rattle.reading.specs.Reading.{Read, Got, Bad, then, both, closed, fresh}
 use Rattle.reading.specs.Telling.{answer, stands, Tells, Told}
 use Rattle.reading.proofs.Steps.{told-bad}
 
@@ -25,6 +25,16 @@ got-of view (Bad d) b at h s = absurd h
 pub told-got : {A B : Type 0} (view : B → A) (x : Read A) (at : Place) (r : Result B Stop) (b : B) → Told view x r at → r ≡ Ok b → x ≡ Got (view b) at
 told-got {A} {B} view x at r b h e =
     got-of view x b at (subst (λ (w : Result B Stop). Tells view x w) e (h .0)) (h .1 (ap isOk e))
+
+-- what a reader tells, from what was read
+pub told-ok : {A B : Type 0} (view : B → A) (x : Read A) (b : B) (at : Place) → x ≡ Got (view b) at → Told view x (Ok b) at
+told-ok view x b at e = (subst (λ y. Tells view y (Ok b)) (sym e) refl, λ _. ap (λ y. stands y at) (sym e))
+
+-- one thing and then another were read
+pub both-got : {A B C : Type 0} (make : A → B → C) (first : Place → Read A) (second : A → Place → Read B) (at p q : Place) (a : A) (b : B)
+    → first at ≡ Got a p → second a (fresh p) ≡ Got b q → both make first second at ≡ Got (make a b) q
+both-got make first second at p q a b e f =
+    ap (λ z. then z (λ x y. then (second x (fresh y)) (λ v w. Got (make x v) w))) e ∙ ap (λ z. then z (λ v w. Got (make a v) w)) f
 
 -- a document that is closed, with a value that holds the same
 closed-ok : {A C : Type 0} (seen : C → A) (f : Option Fault) (p q : Place) (a : A) (w u : C) (t : Result C Refusal)

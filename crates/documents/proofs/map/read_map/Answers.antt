@@ -8,7 +8,7 @@ use Rattle.documents.proofs.MapLaws.{written-again}
 use Rattle.documents.proofs.map.read_map.Needs as need
 
 pub returns : need.returns
-returns g c =
+returns c =
     let t : Tells charted (readWholeMap (c .args .bytes .now)) (c .last-map-at .result) =
           retold charted readLastMap (c .new-from .result .bytes .now) (c .args .bytes .now) (c .new-from .result .at) start (c .last-map-at .result)
             (c .new-from .ensures .0) (c .new-from .ensures .1) (c .last-map-at .ensures .told .0) in
