@@ -3,3 +3,4 @@ pub mod heads;
 pub mod kinds;
 pub mod laws;
 pub mod map;
+pub mod writing;
