@@ -4,3 +4,5 @@ pub mod kinds;
 pub mod laws;
 pub mod map;
 pub mod writing;
+#[cfg(test)]
+mod tests;
