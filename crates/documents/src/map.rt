@@ -77,8 +77,8 @@ pub fn map_at(heap: Global, from: &mut Reader<'_>) -> Result<RoadMapBuf, Stop>
     ensures same { λ r. ⌜ now (now (from .exit) .bytes) ≡ now (now (from .entry) .bytes) ⌝ }
 {
     let map = roads_at(heap, from)?;
-    let fault = fault_of_whole(&map);
-    Ok(from.close(fault, map)?)
+    let apart = fault_of_whole(&map);
+    Ok(from.close(apart, map)?)
 }
 
 /// The map that begins here and with which the input has to end.
