@@ -88,13 +88,6 @@ impl<'a> Reader<'a> {
         }
     }
 
-    /// How many bytes are left.
-    pub fn left(&self) -> usize
-        ensures { λ r. ⌜ r ≡ length (now (now (self .entry) .bytes)) - now (self .entry) .at .byte ⌝ }
-    {
-        self.bytes.len() - self.at.byte
-    }
-
     /// What is wrong with bytes that are left over, where there are any.
     pub fn left_over(&self) -> Option<Fault>
         ensures { λ r. ⌜ r ≡ leftOver (now (now (self .entry) .bytes)) (now (self .entry) .at) ⌝ }
