@@ -71,17 +71,18 @@ fn roads_at(heap: Global, from: &mut Reader<'_>) -> Result<RoadMapBuf, Stop>
     Ok(map)
 }
 
-/// The map that begins here, where something else may follow it. It is read record by record, and refused for the first fault that it has.
+/// The map that begins here, where something else may follow it. It is refused at the first record that has a fault, and there for the lowest;
+/// at its end, if it doesn't hang together. It takes time for the roads, and as long as one row.
 pub fn map_at(heap: Global, from: &mut Reader<'_>) -> Result<RoadMapBuf, Stop>
     ensures told { λ r. ⌜ Told charted (readMap (now (now (from .entry) .bytes)) (now (from .entry) .at)) r (now (from .exit) .at) ⌝ }
     ensures same { λ r. ⌜ now (now (from .exit) .bytes) ≡ now (now (from .entry) .bytes) ⌝ }
 {
     let map = roads_at(heap, from)?;
-    let fault = fault_of_whole(&map);
-    Ok(from.close(fault, map)?)
+    let apart = fault_of_whole(&map);
+    Ok(from.close(apart, map)?)
 }
 
-/// The map that begins here and with which the input has to end.
+/// The map that begins here and with which the input has to end: bytes left over are refused at its end, before all else there.
 pub fn last_map_at(heap: Global, from: &mut Reader<'_>) -> Result<RoadMapBuf, Stop>
     ensures told { λ r. ⌜ Told charted (readLastMap (now (now (from .entry) .bytes)) (now (from .entry) .at)) r (now (from .exit) .at) ⌝ }
     ensures same { λ r. ⌜ now (now (from .exit) .bytes) ≡ now (now (from .entry) .bytes) ⌝ }
@@ -91,7 +92,7 @@ pub fn last_map_at(heap: Global, from: &mut Reader<'_>) -> Result<RoadMapBuf, St
     Ok(from.close(fault, map)?)
 }
 
-/// The map that is the whole of an input.
+/// The map that is the whole of an input. Written again it gives the same bytes.
 pub fn read_map(heap: Global, bytes: &[u8]) -> Result<RoadMapBuf, Stop>
     ensures told { λ r. ⌜ Tells charted (readWholeMap (now (bytes .entry))) r ⌝ }
     ensures again { λ r. ⌜ made r (λ m. now (bytes .entry) ≡ writeMap (charted m)) ⌝ }

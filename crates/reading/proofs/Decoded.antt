@@ -45,6 +45,3 @@ pass b f o e h = ap (λ (z : Bool). cond z (Some f) o) e ∙ h
 
 pub positive : (x : ℕ) → eqb x 0 ≡ false → 0 < x
 positive x e = let h : x ≡ 0 → ⊥ = eqb-false x 0 e in omega arith
-
-pub small-word : (x y : ℕ) → x < 256 → y < 256 → x * 256 + y < 65536
-small-word x y l m = omega arith

@@ -1,20 +1,20 @@
 -- From what is read to what the code answers, and the turns of a loop that reads. Assumes nothing.
 use mathlib.Core.Path.{_≡_, refl, sym, ap, _∙_, subst}
 use mathlib.Core.List.{List, [], _∷_, _++_}
-use mathlib.Core.Bool.{Bool, true, false, cond}
-use Prim.Native.Nat.{ℕ, zero, suc, _+_, _-_, _<_, _≤_}
+use mathlib.Core.Bool.{true, cond}
+use Prim.Native.Nat.{ℕ, suc, _+_, _-_, _<_}
 use native.Mathlib.Omega.{arith}
-use Rattle.std.proofs.shelf.Lists.{append-assoc, append-nil}
+use Rattle.std.proofs.shelf.Lists.{append-assoc}
 use Rattle.std.proofs.shelf.Parts.{pushed}
 use Rattle.std.specs.Results.{isOk}
 use Rattle.std.specs.declared.option.Option.{Option}
-use Rattle.std.specs.declared.option.Option.the-variants.{Some, None}
+use Rattle.std.specs.declared.option.Option.the-variants.{Some}
 use Rattle.std.specs.declared.result.Result.{Result}
 use Rattle.std.specs.declared.result.Result.the-variants.{Ok, Err}
 use Rattle.reading.specs.declared.kinds.Place.{Place}
 use Rattle.reading.specs.declared.kinds.Refusal.{Refusal}
 use Rattle.reading.specs.declared.kinds.Stop.{Stop}
-use Rattle.reading.specs.declared.kinds.Stop.the-variants.{Input, Memory}
+use Rattle.reading.specs.declared.kinds.Stop.the-variants.{Input}
 use Rattle.reading.specs.Reading.{Read, Got, Bad, then, many}
 use Rattle.reading.specs.Telling.{answer, stands, Told, Tells}
 
@@ -35,10 +35,6 @@ onto-cons : {A : Type 0} (xs : List A) (a : A) (r : Read (List A))
     → onto xs (then r (λ ys q. Got (a ∷ ys) q)) ≡ onto (xs ++ a ∷ []) r
 onto-cons xs a (Got ys q) = ap (λ z. Got z q) (sym (append-assoc xs (a ∷ []) ys))
 onto-cons xs a (Bad d) = refl
-
-pub onto-none : {A : Type 0} (r : Read (List A)) → onto [] r ≡ r
-onto-none (Got ys q) = refl
-onto-none (Bad d) = refl
 
 -- one turn of the loop: n - i are left
 pub many-more : {A : Type 0} (step : Option A → Place → Read A) (n i : ℕ) (last : Option A) (at : Place) (xs : List A) (a : A) (q : Place)

@@ -36,6 +36,13 @@ impl<'a> Reader<'a> {
         Reader { bytes, at: Place { index: 0, byte: 0 } }
     }
 
+    /// How many bytes are left.
+    pub fn left(&self) -> usize
+        ensures { λ r. ⌜ r ≡ length (now (now (self .entry) .bytes)) - now (self .entry) .at .byte ⌝ }
+    {
+        self.bytes.len() - self.at.byte
+    }
+
     /// The next `size` bytes, where there are as many.
     pub fn part(&self, size: usize) -> Option<&'a [u8]>
         ensures { λ r. ⌜ BySome r
@@ -43,7 +50,7 @@ impl<'a> Reader<'a> {
             (λ s. (now (self .entry) .at .byte + size ≤ length (now (now (self .entry) .bytes))) × (length (now s) ≡ size)
                 × (now s ≡ take size (drop (now (self .entry) .at .byte) (now (now (self .entry) .bytes))))) ⌝ }
     {
-        if self.bytes.len() - self.at.byte < size {
+        if self.left() < size {
             return None;
         }
         let end = self.at.byte + size;
@@ -79,13 +86,6 @@ impl<'a> Reader<'a> {
                 Ok(value)
             }
         }
-    }
-
-    /// How many bytes are left.
-    pub fn left(&self) -> usize
-        ensures { λ r. ⌜ r ≡ length (now (now (self .entry) .bytes)) - now (self .entry) .at .byte ⌝ }
-    {
-        self.bytes.len() - self.at.byte
     }
 
     /// What is wrong with bytes that are left over, where there are any.
