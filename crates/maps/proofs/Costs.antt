@@ -61,10 +61,10 @@ module _ (n : ℕ) (starts places costs : List ℕ) (A : Arcs n starts places co
       let r = lookup-some places costs e (getD starts (a + 1) 0 - getD starts a 0) (getD starts a 0) (omega (arith, x, h)) in
       (r .0, r .1, omega (arith, r .2, A .rises a l), r .3, x ∙ r .4)
 
-  past-row : (a e : ℕ) → n ≤ a → mapIn n starts places costs .cost a e ≡ 0
+  pub past-row : (a e : ℕ) → n ≤ a → mapIn n starts places costs .cost a e ≡ 0
   past-row a e h = ap (λ b. cond b (lookup places costs e (getD starts a 0) (getD starts (a + 1) 0 - getD starts a 0)) 0) (and-left (ltb a n) (ltb e n) (le-ltb a n h))
 
-  past-column : (a e : ℕ) → n ≤ e → mapIn n starts places costs .cost a e ≡ 0
+  pub past-column : (a e : ℕ) → n ≤ e → mapIn n starts places costs .cost a e ≡ 0
   past-column a e h = ap (λ b. cond b (lookup places costs e (getD starts a 0) (getD starts (a + 1) 0 - getD starts a 0)) 0) (and-right (ltb a n) (ltb e n) (le-ltb e n h))
 
   both-all : (a e : ℕ) → mapIn n starts places costs .cost a e ≡ mapIn n starts places costs .cost e a
