@@ -3,7 +3,7 @@ use Prim.Native.Nat.{ℕ, _<_}
 use native.Mathlib.Omega.{arith}
 use lib.ListN.{length, getD, set, replicate}
 use Rattle.maps.specs.Charts.{chart}
-use Rattle.maps.proofs.ArcParts.{facts}
+use Rattle.maps.proofs.Views.{view-arcs}
 use mathlib.Core.Path.{refl, ap}
 use mathlib.Core.List.{List}
 use Rattle.distances.specs.Keys.{keyOf, Moved}
@@ -17,7 +17,7 @@ loop-u-holds c =
     let e : c .fill .last .self ≡ replicate (m .n) none = c .fill .ensures .after (λ y e. e) ∙ ap (λ k. replicate k none) (c .pre .dists) in
     (c .put .ensures .size ∙ c .new-queue .ensures .size,
      subst (λ (xs : List ℕ). Searching (chart m) (m .n) (c .args .d) (set xs (c .args .d) 0) (c .put .last .self .keys)) (sym e)
-       (searching-start (chart m) (m .n) (c .args .d) refl (facts m .few) (c .pre .here) (c .new-queue .result .keys) (c .put .last .self .keys)
+       (searching-start (chart m) (m .n) (c .args .d) refl (view-arcs m .few) (c .pre .here) (c .new-queue .result .keys) (c .put .last .self .keys)
          (subst (λ n. Moved n (c .new-queue .result .keys) (c .put .last .self .keys) (c .args .d) (keyOf 0 (c .args .d))) (c .new-queue .ensures .size) (c .put .ensures .moved))
          (c .new-queue .ensures .none)))
 
