@@ -1,6 +1,7 @@
-pub mod Arcs
+pub mod SoundArcs
 pub mod Costs
 pub mod RoadLists
+pub mod ArcParts
 pub mod Arcing
 pub mod Counting
 pub mod Filled

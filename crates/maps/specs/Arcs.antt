@@ -10,10 +10,10 @@
 --   soundArcs  the arrays are those of a map
 use mathlib.Core.Path.{_≡_}
 use mathlib.Core.Bool.{Bool, true, cond, _&&_, _||_, not}
-use mathlib.Core.List.{List}
+use mathlib.Core.List.{List, []}
 use Prim.Native.Nat.{ℕ, zero, suc, _+_, _-_, _<_, _≤_}
 use lib.Dec.{eqb, ltb, leb}
-use lib.ListN.{length, getD}
+use lib.ListN.{length, getD, take, drop}
 use Rattle.ways.specs.Map.{Map}
 use Rattle.ways.specs.Ways.{allBelow}
 
@@ -66,3 +66,7 @@ pub record Meaning (z : Map) : Type 0 where
   pub outside : (a e : ℕ) → z .n ≤ a → z .cost a e ≡ 0
   pub itself : (a : ℕ) → z .cost a a ≡ 0
   pub cheap : (a e : ℕ) → z .cost a e ≤ 65535
+
+-- the part of an array that belongs to the arcs of place a; none beyond the places
+abbrev pub arcPart : ℕ → List ℕ → List ℕ → ℕ → List ℕ
+arcPart n starts xs a = cond (ltb a n) (take (getD starts (a + 1) 0 - getD starts a 0) (drop (getD starts a 0) xs)) []

@@ -1,4 +1,5 @@
 // Maps: faults and their numbers, roads, and the map in memory.
+pub mod arcs;
 pub mod buf;
 pub mod faults;
 pub mod kinds;

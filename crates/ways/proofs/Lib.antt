@@ -6,3 +6,4 @@ pub mod Metric
 pub mod LeastWays
 pub mod NextPlaces
 pub mod Hanging
+pub mod Counting

@@ -1,6 +1,6 @@
 -- Ways along roads, maps that hang together, and what makes a table the distances to a place. Assumes nothing.
 use mathlib.Core.Path.{_≡_}
-use mathlib.Core.Bool.{Bool, true, _&&_}
+use mathlib.Core.Bool.{Bool, true, cond, _&&_}
 use Prim.Native.Nat.{ℕ, zero, suc, _+_, _<_, _≤_}
 use Rattle.ways.specs.Map.{Map, Far, At, far, some}
 
@@ -36,3 +36,8 @@ allBelow (suc k) f = f k && allBelow k f
 -- the map hangs together: there is a way from each place to place 0
 abbrev pub hangsTogether : Map → Bool
 hangsTogether z = allBelow (z .n) (λ a. some (far z 0 a))
+
+-- how many numbers below k there are of which f holds
+unfoldable pub countBelow : ℕ → (ℕ → Bool) → ℕ
+countBelow zero f = 0
+countBelow (suc k) f = cond (f k) 1 0 + countBelow k f

@@ -1,6 +1,6 @@
 use mathlib.Core.Path.{refl}
 use Rattle.std.specs.Of.Vec.{vec-items}
-use Rattle.maps.proofs.Arcs.{arcs-of}
+use Rattle.maps.proofs.SoundArcs.{arcs-of}
 use Rattle.maps.proofs.Costs.{meaning}
 use Rattle.maps.proofs.buf.RoadMapBuf.map.Needs as need
 

@@ -1,0 +1,7 @@
+pub mod Trees
+pub mod Following
+pub mod Searching
+pub mod Turns
+pub mod Numbers
+pub mod RowsOf
+pub mod FirstArcs
