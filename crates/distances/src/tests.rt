@@ -69,17 +69,33 @@ fn one_place_and_two(rt: LibcRuntime) -> Result<(), Fail> {
 }
 
 #[test]
-fn what_is_refused_stays(rt: LibcRuntime) -> Result<(), Fail> {
+fn a_map_apart(rt: LibcRuntime) -> Result<(), Fail> {
     let apart = lay(rt.alloc(), 4, &[road(0, 1, 1), road(2, 3, 1)])?;
     check(!hangs_together(&apart.map()))?;
-    check_row(&apart, 0, [0, 1, u32::MAX, u32::MAX], [NOWHERE, 0, NOWHERE, NOWHERE])?;
+    check_row(&apart, 0, [0, 1, u32::MAX, u32::MAX], [NOWHERE, 0, NOWHERE, NOWHERE])
+}
+
+#[test]
+fn what_is_refused_stays(rt: LibcRuntime) -> Result<(), Fail> {
+    let map = lay(rt.alloc(), 4, &[road(0, 1, 1), road(1, 2, 1), road(2, 3, 1)])?;
     let mut dist = [7u32; 4];
     let mut next = [7u16; 4];
-    check_eq(row(&apart.map(), 4, &mut dist, &mut next).err(), Some(Fault::Range))?;
-    check_eq(row(&apart.map(), 0, &mut dist, &mut next[0..3]).err(), Some(Fault::Range))?;
-    check_eq(all_rows(&apart.map(), &mut dist, &mut next).err(), Some(Fault::Range))?;
+    let beyond = row(&map.map(), 4, &mut dist, &mut next);
+    check_eq(beyond.err(), Some(Fault::Range))?;
     check_eq(dist, [7, 7, 7, 7])?;
     check_eq(next, [7, 7, 7, 7])
+}
+
+#[test]
+fn other_sizes_are_refused(rt: LibcRuntime) -> Result<(), Fail> {
+    let map = lay(rt.alloc(), 2, &[road(0, 1, 1)])?;
+    let mut dist = [7u32; 2];
+    let mut next = [7u16; 3];
+    check_eq(row(&map.map(), 0, &mut dist, &mut next).err(), Some(Fault::Range))?;
+    let mut far = [7u32; 4];
+    let mut hop = [7u16; 3];
+    check_eq(all_rows(&map.map(), &mut far, &mut hop).err(), Some(Fault::Range))?;
+    check_eq(far, [7, 7, 7, 7])
 }
 
 // Roads from each place to the eight after it, and from the first 36 to the ninth: 4,096 in all.
