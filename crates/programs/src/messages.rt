@@ -1,4 +1,6 @@
 // What a program says of a fault, of a record, and of an input that it refuses.
+ghost use mathlib.Core.Path.{_≡_};
+ghost use Rattle.programs.specs.Words.{recordName};
 use maps::kinds::Fault;
 use reading::kinds::Record;
 use reading::kinds::Refusal;
@@ -24,8 +26,10 @@ pub fn words_of(fault: Fault) -> &'static str {
 }
 
 /// The name of a sort of record.
-pub fn name_of(record: Record) -> &'static str {
-    match record {
+pub fn name_of(sort: Record) -> &'static str
+    ensures { λ r. ⌜ now r ≡ recordName sort ⌝ }
+{
+    match sort {
         Record::Header => "header",
         Record::Road => "road",
         Record::End => "end",
