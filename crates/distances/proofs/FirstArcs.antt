@@ -66,19 +66,22 @@ module _ (m : RoadMap) (d : ℕ) (dn : d < m .n) (dist : List ℕ) (f : FarRow (
       (k, omega (arith, i, long), p, (omega (arith, x, c .neighbour), omega (arith, x, y, w)))
 
   rises : (j k : ℕ) → j < length ps → k < length ps → getD ps j 0 < getD ps k 0 → j < k
-  rises j k lj lk h = elim (cases-lt j k)
-      [ inl p ↦ p
-      | inr p ↦ elim (cases-eq j k)
-          [ inl e ↦ absurd (omega (arith, h, ap (λ q. getD ps q 0) e))
-          | inr e ↦ (let x = arcs-rise (m .n) (m .starts .now) (m .places .now) (m .costs .now) (view-arcs m) a (getD (m .starts .now) a 0 + k) (getD (m .starts .now) a 0 + j) an (omega arith) (omega arith) (within-arcs j lj) in
-                     absurd (omega (arith, h, x, place-at j (within-arcs j lj), place-at k (within-arcs k lk)))) ] ]
+  rises j k lj lk h = elim (cases-lt j k) [
+    | inl p ↦ p
+    | inr p ↦ elim (cases-eq j k) [
+      | inl e ↦ absurd (omega (arith, h, ap (λ q. getD ps q 0) e))
+      | inr e ↦ (let x = arcs-rise (m .n) (m .starts .now) (m .places .now) (m .costs .now) (view-arcs m) a (getD (m .starts .now) a 0 + k) (getD (m .starts .now) a 0 + j) an (omega arith) (omega arith) (within-arcs j lj) in
+          absurd (omega (arith, h, x, place-at j (within-arcs j lj), place-at k (within-arcs k lk))))
+    ]
+  ]
 
   same-hop : (w r : ℕ) → hop (chart m) d a ≡ To w → Closer (chart m) d a r → ((x : ℕ) → x < r → Closer (chart m) d a x → ⊥) → w ≡ r
   same-hop w r h c low =
       let N = next-place (chart m) d a dn an in
-      elim (cases-lt w r)
-        [ inl p ↦ absurd (low w p (N .closer w h))
-        | inr p ↦ elim (cases-eq w r) [ inl e ↦ e | inr e ↦ absurd (N .lowest-such w r h (omega arith) c) ] ]
+      elim (cases-lt w r) [
+        | inl p ↦ absurd (low w p (N .closer w h))
+        | inr p ↦ elim (cases-eq w r) [ inl e ↦ e | inr e ↦ absurd (N .lowest-such w r h (omega arith) c) ]
+      ]
 
   not-d : (r : ℕ) → Closer (chart m) d a r → a ≡ d → ⊥
   not-d r c e =
@@ -96,7 +99,7 @@ module _ (m : RoadMap) (d : ℕ) (dn : d < m .n) (dist : List ℕ) (f : FarRow (
       let c = leads-closer (h .0) r (h .1) (h .2) (h .3) in
       let t = next-place (chart m) d a dn an .there (chart m .cost a r + c .rest) (c .whole-is) (not-d r c) in
       let low : (x : ℕ) → x < r → Closer (chart m) d a x → ⊥ = λ x l q.
-            (let j = closer-leads x q in
-             h .4 (j .0) (rises (j .0) (h .0) (j .1) (h .1) (omega (arith, j .2, h .2))) (subst (λ y. Leads (getD cs (j .0) 0) (getD dist a 0) (getD dist y 0)) (sym (j .2)) (j .3))) in
+      (let j = closer-leads x q in
+      h .4 (j .0) (rises (j .0) (h .0) (j .1) (h .1) (omega (arith, j .2, h .2))) (subst (λ y. Leads (getD cs (j .0) 0) (getD dist a 0) (getD dist y 0)) (sym (j .2)) (j .3))) in
       sym (same-hop (t .0) r (t .1) c low) ∙ ap hopNumber (sym (t .1))
   first-is-hop r (inr h) = h .0 ∙ none-hop (hop (chart m) d a) refl (h .1)

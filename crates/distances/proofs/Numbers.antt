@@ -38,11 +38,12 @@ never-some (At c) k e h l = absurd (omega (arith, e, h c refl))
 module _ (m : RoadMap) (dist : List ℕ) (f : FarRow (chart m) 0 dist) where
   -- one place that can't be reached
   pub apart-at : (a : ℕ) → a < m .n → none ≤ getD dist a 0 → false ≡ hangsTogether (chart m)
-  apart-at a l h = elim (cases-bool (hangsTogether (chart m)))
-      [ inl p ↦ absurd (both-ways (some (far (chart m) 0 a))
-            (never-some (far (chart m) 0 a) (getD dist a 0) (f a l) (λ c e. far-fits m 0 a c (view-arcs m .some) l e) h)
-            (all-at (m .n) (λ a. some (far (chart m) 0 a)) p a l))
-      | inr p ↦ sym p ]
+  apart-at a l h = elim (cases-bool (hangsTogether (chart m))) [
+    | inl p ↦ absurd (both-ways (some (far (chart m) 0 a))
+        (never-some (far (chart m) 0 a) (getD dist a 0) (f a l) (λ c e. far-fits m 0 a c (view-arcs m .some) l e) h)
+        (all-at (m .n) (λ a. some (far (chart m) 0 a)) p a l))
+    | inr p ↦ sym p
+  ]
 
   -- all can
   pub together : ((a : ℕ) → a < m .n → getD dist a 0 < none) → true ≡ hangsTogether (chart m)

@@ -54,9 +54,11 @@ module _ (m : RoadMap) (d : ℕ) (dn : d < m .n) (dist keys : List ℕ) (o : Sea
 
         -- fewer places are left
         pub turn-less : m .n - countBelow (m .n) (settled (m .n) after keys₂) < m .n - countBelow (m .n) (settled (m .n) dist keys)
-        turn-less = omega (arith,
-            settled-more (m .n) (m .starts .now) (m .places .now) (m .costs .now) (view-arcs m) d dn dist keys o u (popped .0) (popped .1) (popped .2) keys₁ (popped .3) ps cs after keys₂ long places-at costs-at followed la,
-            count-most (m .n) (settled (m .n) after keys₂))
+        turn-less = omega (
+          arith,
+          settled-more (m .n) (m .starts .now) (m .places .now) (m .costs .now) (view-arcs m) d dn dist keys o u (popped .0) (popped .1) (popped .2) keys₁ (popped .3) ps cs after keys₂ long places-at costs-at followed la,
+          count-most (m .n) (settled (m .n) after keys₂),
+        )
 
   -- nobody waits any more
   pub turn-end : (q : ℕ) → q ≡ m .n → (keys₁ : List ℕ) → Popped q keys keys₁ None → FarRow (chart m) d dist

@@ -1,4 +1,7 @@
 // Rows of small maps and of the largest, and what is refused.
+use super::joined::hangs_together;
+use super::rows::all_rows;
+use super::rows::row;
 use maps::buf::RoadMapBuf;
 use maps::faults::FaultFromAlloc;
 use maps::kinds::Fault;
@@ -8,9 +11,6 @@ use maps::kinds::Road;
 use std::alloc::AllocError;
 use std::alloc::Global;
 use std::test::*;
-use super::joined::hangs_together;
-use super::rows::all_rows;
-use super::rows::row;
 
 const NOWHERE: u16 = u16::MAX;
 
@@ -33,21 +33,33 @@ fn check_row(map: &RoadMapBuf, d: usize, far: [u32; 4], hop: [u16; 4]) -> Result
 
 #[test]
 fn a_row_of_places(rt: LibcRuntime) -> Result<(), Fail> {
-    let map = lay(rt.alloc(), 4, &[road(0, 1, 2), road(1, 2, 3), road(2, 3, 4)])?;
+    let map = lay(
+        rt.alloc(),
+        4,
+        &[road(0, 1, 2), road(1, 2, 3), road(2, 3, 4)],
+    )?;
     check_row(&map, 0, [0, 2, 5, 9], [NOWHERE, 0, 1, 2])?;
     check_row(&map, 3, [9, 7, 4, 0], [1, 2, 3, NOWHERE])
 }
 
 #[test]
 fn a_ring_has_ties(rt: LibcRuntime) -> Result<(), Fail> {
-    let map = lay(rt.alloc(), 4, &[road(0, 1, 1), road(0, 3, 1), road(1, 2, 1), road(2, 3, 1)])?;
+    let map = lay(
+        rt.alloc(),
+        4,
+        &[road(0, 1, 1), road(0, 3, 1), road(1, 2, 1), road(2, 3, 1)],
+    )?;
     check_row(&map, 0, [0, 1, 2, 1], [NOWHERE, 0, 1, 0])?;
     check_row(&map, 2, [2, 1, 0, 1], [1, 2, NOWHERE, 2])
 }
 
 #[test]
 fn a_star_goes_by_its_middle(rt: LibcRuntime) -> Result<(), Fail> {
-    let map = lay(rt.alloc(), 4, &[road(0, 1, 5), road(0, 2, 6), road(0, 3, 65535)])?;
+    let map = lay(
+        rt.alloc(),
+        4,
+        &[road(0, 1, 5), road(0, 2, 6), road(0, 3, 65535)],
+    )?;
     check_row(&map, 3, [65535, 65540, 65541, 0], [3, 0, 0, NOWHERE])?;
     check(hangs_together(&map.map()))
 }
@@ -72,12 +84,21 @@ fn one_place_and_two(rt: LibcRuntime) -> Result<(), Fail> {
 fn a_map_apart(rt: LibcRuntime) -> Result<(), Fail> {
     let apart = lay(rt.alloc(), 4, &[road(0, 1, 1), road(2, 3, 1)])?;
     check(!hangs_together(&apart.map()))?;
-    check_row(&apart, 0, [0, 1, u32::MAX, u32::MAX], [NOWHERE, 0, NOWHERE, NOWHERE])
+    check_row(
+        &apart,
+        0,
+        [0, 1, u32::MAX, u32::MAX],
+        [NOWHERE, 0, NOWHERE, NOWHERE],
+    )
 }
 
 #[test]
 fn what_is_refused_stays(rt: LibcRuntime) -> Result<(), Fail> {
-    let map = lay(rt.alloc(), 4, &[road(0, 1, 1), road(1, 2, 1), road(2, 3, 1)])?;
+    let map = lay(
+        rt.alloc(),
+        4,
+        &[road(0, 1, 1), road(1, 2, 1), road(2, 3, 1)],
+    )?;
     let mut dist = [7u32; 4];
     let mut next = [7u16; 4];
     let beyond = row(&map.map(), 4, &mut dist, &mut next);
@@ -91,10 +112,16 @@ fn other_sizes_are_refused(rt: LibcRuntime) -> Result<(), Fail> {
     let map = lay(rt.alloc(), 2, &[road(0, 1, 1)])?;
     let mut dist = [7u32; 2];
     let mut next = [7u16; 3];
-    check_eq(row(&map.map(), 0, &mut dist, &mut next).err(), Some(Fault::Range))?;
+    check_eq(
+        row(&map.map(), 0, &mut dist, &mut next).err(),
+        Some(Fault::Range),
+    )?;
     let mut far = [7u32; 4];
     let mut hop = [7u16; 3];
-    check_eq(all_rows(&map.map(), &mut far, &mut hop).err(), Some(Fault::Range))?;
+    check_eq(
+        all_rows(&map.map(), &mut far, &mut hop).err(),
+        Some(Fault::Range),
+    )?;
     check_eq(far, [7, 7, 7, 7])
 }
 

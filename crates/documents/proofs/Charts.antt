@@ -34,8 +34,9 @@ no-map : (byte : ℕ) (b : Bool) → isMap (cond b (Some Plan) (cond (eqb byte 3
 no-map byte true = refl
 no-map byte false =
     elim (eqb byte 3) as (λ z. isMap (cond z (Some Change) (cond (eqb byte 4) (Some Walk) None)) ≡ false) [
-      true ↦ refl
-    | false ↦ elim (eqb byte 4) as (λ z. isMap (cond z (Some Walk) None) ≡ false) [ true ↦ refl | false ↦ refl ] ]
+      | true ↦ refl
+      | false ↦ elim (eqb byte 4) as (λ z. isMap (cond z (Some Walk) None) ≡ false) [ true ↦ refl | false ↦ refl ]
+    ]
 
 is-map : (byte : ℕ) (b : Bool) → b ≡ eqb byte 1
     → isMap (cond b (Some Map) (cond (eqb byte 2) (Some Plan) (cond (eqb byte 3) (Some Change) (cond (eqb byte 4) (Some Walk) None)))) ≡ true → byte ≡ 1
@@ -59,22 +60,24 @@ head-sound h e =
       kind = is-map (h .kind) (eqb (h .kind) 1) refl (not-false _ (x .0));
       some = positive _ (o′ .0);
       few = ltb-false _ _ (o′ .1);
-      short = ltb-false _ _ (o .1) }
+      short = ltb-false _ _ (o .1);
+    }
 
 head-written : Written headShape 0 None headBytes SoundHead
 head-written = record {
-    some = omega arith;
-    wide = λ h. refl;
-    told = λ h v. head-is h refl (word-bytes (h .places)) (word-bytes (h .roads));
-    fair = λ h v.
+  some = omega arith;
+  wide = λ h. refl;
+  told = λ h v. head-is h refl (word-bytes (h .places)) (word-bytes (h .roads));
+  fair = λ h v.
       let s = v .some in
       pass _ Form _ (ap (λ k. not (isMap (kindOf k))) (v .kind))
-        (pass _ Range None (or-from _ _ (or-from _ _ (ne-eqb (h .places) 0 (λ e. omega arith)) (le-ltb 512 (h .places) (v .few))) (le-ltb 4096 (h .roads) (v .short))) refl);
-    sure = λ bs l small e. head-sound (headOf bs) e;
-    same = λ bs l small.
+      (pass _ Range None (or-from _ _ (or-from _ _ (ne-eqb (h .places) 0 (λ e. omega arith)) (le-ltb 512 (h .places) (v .few))) (le-ltb 4096 (h .roads) (v .short))) refl);
+  sure = λ bs l small e. head-sound (headOf bs) e;
+  same = λ bs l small.
       ap (λ z. getD bs 0 0 ∷ z) (bytes-word (getD bs 1 0) (getD bs 2 0) _ (small 1 (omega arith)) (small 2 (omega arith)))
       ∙ ap (λ z. getD bs 0 0 ∷ getD bs 1 0 ∷ getD bs 2 0 ∷ z) (bytes-word (getD bs 3 0) (getD bs 4 0) [] (small 3 (omega arith)) (small 4 (omega arith)))
-      ∙ spread-all 5 bs l }
+      ∙ spread-all 5 bs l;
+}
 
 abbrev pub SoundMap : Charted → Type 0
 SoundMap m = SoundRoads (m .places) (m .roads)
@@ -90,8 +93,11 @@ chart-fits = seq-fits (λ bytes. one headShape 0 bytes None) headBytes SoundHead
     (one-fits headShape 0 None headBytes SoundHead head-written)
     (λ h _. roads-fit (h .places) (h .roads))
     (λ m v. (record { kind = refl; some = v .some; few = v .few; short = v .short }, (refl, v .each), refl))
-    (λ h xs v w. (record { some = v .some; few = v .few; short = short-is _ _ (w .0) (v .short); each = w .1 },
-      head-is h (sym (v .kind)) refl (w .0), refl))
+    (λ h xs v w. (
+      record { some = v .some; few = v .few; short = short-is _ _ (w .0) (v .short); each = w .1 },
+      head-is h (sym (v .kind)) refl (w .0),
+      refl,
+    ))
 
 -- Whatever the input, roads that are read are those of a map without a fault.
 pub chart-sound : (bytes : List ℕ) (at next : Place) (m : Charted) → readRoads bytes at ≡ Got m next → SoundMap m
@@ -101,6 +107,6 @@ chart-sound bytes at next m e =
     let y = then-got (many (one roadShape (h .places) bytes) (h .roads) None (fresh (x .1))) (λ roads q. Got (record { places = h .places; roads = roads }) q) m next (x .3) in
     let v = head-sound h (one-faultless headShape 0 bytes None at (x .1) h (x .2)) in
     let w = many-each (one roadShape (h .places) bytes) (SoundRoad (h .places))
-          (λ last p q r f. road-sound (h .places) last r (one-faultless roadShape (h .places) bytes last p q r f)) (h .roads) None (fresh (x .1)) (y .1) (y .0) (y .2) in
+    (λ last p q r f. road-sound (h .places) last r (one-faultless roadShape (h .places) bytes last p q r f)) (h .roads) None (fresh (x .1)) (y .1) (y .0) (y .2) in
     let same : record { places = h .places; roads = y .0 } ≡ m = let z = y .3 in cc in
     subst SoundMap same (record { some = v .some; few = v .few; short = short-is _ _ (w .0) (v .short); each = w .1 })

@@ -24,7 +24,7 @@ pub roads-got : {V : Type 0} (view : V → List Road) (b b′ : List ℕ) (at p 
     → readRoads b at ≡ Got (record { places = h .places; roads = view v }) q
 roads-got view b b′ at p p′ q h v r s was says stood same begun was′ told =
     both-got (λ x roads. record { places = x .places; roads = roads }) (one headShape 0 b None) (λ x. many (one roadShape (x .places) b) (x .roads) None) at p q h (view v)
-      (got (one headShape 0 b None at) at h r was says ∙ ap (λ z. Got h z) (sym stood))
-      (ap (λ (z : Place). many (one roadShape (h .places) b) (h .roads) None z) (sym begun)
-      ∙ ap (λ (z : List ℕ). many (one roadShape (h .places) z) (h .roads) None p′) (sym same)
-      ∙ told-got view (many (one roadShape (h .places) b′) (h .roads) None p′) q s v told was′)
+    (got (one headShape 0 b None at) at h r was says ∙ ap (λ z. Got h z) (sym stood))
+    (ap (λ (z : Place). many (one roadShape (h .places) b) (h .roads) None z) (sym begun)
+    ∙ ap (λ (z : List ℕ). many (one roadShape (h .places) z) (h .roads) None p′) (sym same)
+    ∙ told-got view (many (one roadShape (h .places) b′) (h .roads) None p′) q s v told was′)

@@ -44,16 +44,16 @@ fair m v = ap (λ (b : Bool). cond b None (Some Apart)) (v .whole)
 pub comes-back : Comes-back
 comes-back m v rest =
     from-start (length (writeMap m))
-      (close-trip readRoads writeMap SoundMap chart-fits end-fault (writeMap m ++ rest) rest start m (v .roads) (λ p e. fair m v) refl)
+    (close-trip readRoads writeMap SoundMap chart-fits end-fault (writeMap m ++ rest) rest start m (v .roads) (λ p e. fair m v) refl)
 
 pub comes-back-whole : Comes-back-whole
 comes-back-whole m v =
     from-start (length (writeMap m))
-      (close-trip readRoads writeMap SoundMap chart-fits lastFault (writeMap m) [] start m (v .roads)
-        (λ p e.
-          ap (λ (b : Bool). orElse (cond b None (Some Form)) (apart m)) (eq-eqb (p .byte) (length (writeMap m)) (omega arith))
-          ∙ fair m v)
-        (sym (append-nil (writeMap m))))
+    (close-trip readRoads writeMap SoundMap chart-fits lastFault (writeMap m) [] start m (v .roads)
+    (λ p e.
+    ap (λ (b : Bool). orElse (cond b None (Some Form)) (apart m)) (eq-eqb (p .byte) (length (writeMap m)) (omega arith))
+    ∙ fair m v)
+    (sym (append-nil (writeMap m))))
 
 pub goes-back : Goes-back
 goes-back bytes all m next e =
@@ -65,14 +65,16 @@ goes-back-whole bytes all m next e =
     let b = close-back readRoads writeMap SoundMap chart-fits lastFault bytes all start next m e in
     let n = or-none (leftOver bytes (b .2)) (apart m) (b .3) in
     let ends : b .2 .byte ≡ length bytes = eqb-true (b .2 .byte) (length bytes) (none-true Form _ (n .0)) in
-    let h = b .4 in
-    (record { roads = b .0; whole = none-true Apart _ (n .1) },
-    b .1 ∙ ap (λ z. writeMap m ++ z) (drop-all (next .byte) bytes (omega arith)) ∙ append-nil (writeMap m))
+    let h = b .4 in (
+      record { roads = b .0; whole = none-true Apart _ (n .1) },
+      b .1 ∙ ap (λ z. writeMap m ++ z) (drop-all (next .byte) bytes (omega arith)) ∙ append-nil (writeMap m),
+    )
 
 pub cut-is-told : Cut-is-told
-cut-is-told m v front back e l =
-    (close-cut readRoads writeMap SoundMap chart-fits end-fault front front back start m (v .roads) refl e l,
-    close-cut readRoads writeMap SoundMap chart-fits lastFault front front back start m (v .roads) refl e l)
+cut-is-told m v front back e l = (
+  close-cut readRoads writeMap SoundMap chart-fits end-fault front front back start m (v .roads) refl e l,
+  close-cut readRoads writeMap SoundMap chart-fits lastFault front front back start m (v .roads) refl e l,
+)
 
 -- what the code tells, written again
 pub written-again : {B : Type 0} (view : B → Charted) (bytes : List ℕ) → Bytes bytes → (r : Result B Stop) → Tells view (readWholeMap bytes) r

@@ -45,7 +45,7 @@ headShape = record { sort = Header; size = 5; value = headOf; fault = λ _ _. he
 abbrev pub readRoads : List ℕ → Place → Read Charted
 readRoads bytes =
     both (λ h roads. record { places = h .places; roads = roads })
-      (one headShape 0 bytes None) (λ h. many (one roadShape (h .places) bytes) (h .roads) None)
+    (one headShape 0 bytes None) (λ h. many (one roadShape (h .places) bytes) (h .roads) None)
 
 abbrev pub apart : Charted → Option Fault
 apart m = cond (hangsTogether (mapOf (m .places) (m .roads))) None (Some Apart)

@@ -4,15 +4,15 @@ ghost use Rattle.std.specs.Of.Vec.{vec-items};
 ghost use Rattle.reading.specs.Writing.{Wrote};
 ghost use Rattle.documents.specs.Kinds.{kindOf};
 ghost use Rattle.documents.specs.Maps.{headFault, headShape, headBytes};
-use std::alloc::AllocError;
+use super::kinds::Kind;
+use super::kinds::MapHead;
 use maps::kinds::Fault;
 use maps::roads::fault_of_size;
 use reading::kinds::Record;
 use reading::reader::word_at;
 use reading::records::Recorded;
 use reading::writer::Put;
-use super::kinds::Kind;
-use super::kinds::MapHead;
+use std::alloc::AllocError;
 
 impl Kind {
     /// The kind of document that begins with this byte.
@@ -53,7 +53,11 @@ pub impl Recorded for MapHead as HeadRecorded {
     }
 
     fn decode(part: &[u8]) -> MapHead {
-        MapHead { kind: part[0], places: word_at(part, 1), roads: word_at(part, 3) }
+        MapHead {
+            kind: part[0],
+            places: word_at(part, 1),
+            roads: word_at(part, 3),
+        }
     }
 
     fn judge(self, _n: u16, _last: Option<MapHead>) -> Option<Fault>

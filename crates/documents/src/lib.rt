@@ -3,6 +3,6 @@ pub mod heads;
 pub mod kinds;
 pub mod laws;
 pub mod map;
-pub mod writing;
 #[cfg(test)]
 mod tests;
+pub mod writing;

@@ -8,7 +8,8 @@ ghost use Rattle.maps.specs.Roads.{mapFault, mapOf};
 ghost use Rattle.reading.specs.Telling.{Tells, Told};
 ghost use Rattle.documents.specs.Maps.{readRoads, readMap, readLastMap, readWholeMap, apart, lastFault, writeMap};
 ghost use Rattle.documents.specs.Views.{charted, Built};
-use std::alloc::Global;
+use super::heads::HeadRecorded;
+use super::kinds::MapHead;
 use distances::joined::hangs_together;
 use maps::buf::RoadMapBuf;
 use maps::kinds::Fault;
@@ -19,8 +20,7 @@ use reading::records::read_record;
 use reading::records::read_records;
 use reading::roads::RoadRecorded;
 use reading::stops::StopFromRefusal;
-use super::heads::HeadRecorded;
-use super::kinds::MapHead;
+use std::alloc::Global;
 
 // The map of roads that were read without a fault: only memory can run out.
 fn built(heap: Global, n: u16, roads: Vec<Road>) -> Result<RoadMapBuf, Stop>

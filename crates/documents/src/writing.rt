@@ -4,14 +4,14 @@ ghost use Rattle.std.specs.Of.Vec.{vec-items};
 ghost use Rattle.reading.specs.Writing.{Wrote};
 ghost use Rattle.documents.specs.Maps.{writeMap};
 ghost use Rattle.documents.specs.Views.{charted};
-use std::alloc::AllocError;
+use super::heads::HeadPut;
+use super::kinds::MapHead;
 use maps::buf::RoadMapBuf;
 use maps::kinds::Road;
 use reading::roads::RoadPut;
 use reading::writer::Put;
 use reading::writer::put_all;
-use super::heads::HeadPut;
-use super::kinds::MapHead;
+use std::alloc::AllocError;
 
 /// Writes a map behind what `out` holds; for want of memory, nothing of it.
 pub fn write_map(out: &mut Vec<u8>, map: &RoadMapBuf) -> Result<(), AllocError>
@@ -19,7 +19,11 @@ pub fn write_map(out: &mut Vec<u8>, map: &RoadMapBuf) -> Result<(), AllocError>
 {
     let old = out.len();
     let roads = map.roads();
-    let head = MapHead { kind: 1, places: map.len(), roads: roads.len() as u16 };
+    let head = MapHead {
+        kind: 1,
+        places: map.len(),
+        roads: roads.len() as u16,
+    };
     head.put(out)?;
     if let Err(error) = put_all::<Road>(out, roads) {
         out.truncate(old);

@@ -29,23 +29,34 @@ module _ (n : ℕ) (starts places costs : List ℕ) (A : Arcs n starts places co
 
     pub halving-up : (k : ℕ) → low ≤ k → k < high → getD places k 0 < e → Halving starts places a e (k + 1) high
     halving-up k p q h = record {
-        start = omega (arith, o .start); order = omega arith; end = o .end; above = o .above;
-        below = λ j r s. elim (cases-eq j k)
-          [ inl t ↦ omega (arith, h, ap (λ i. getD places i 0) t)
-          | inr t ↦ omega (arith, h, arcs-rise n starts places costs A a j k l r (omega arith) (omega (arith, o .end))) ] }
+      start = omega (arith, o .start);
+      order = omega arith;
+      end = o .end;
+      above = o .above;
+      below = λ j r s. elim (cases-eq j k) [
+        | inl t ↦ omega (arith, h, ap (λ i. getD places i 0) t)
+        | inr t ↦ omega (arith, h, arcs-rise n starts places costs A a j k l r (omega arith) (omega (arith, o .end)))
+      ];
+    }
 
     pub halving-down : (k : ℕ) → low ≤ k → k < high → e < getD places k 0 → Halving starts places a e low k
     halving-down k p q h = record {
-        start = o .start; order = p; end = omega (arith, o .end); below = o .below;
-        above = λ j r s. elim (cases-eq j k)
-          [ inl t ↦ omega (arith, h, ap (λ i. getD places i 0) t)
-          | inr t ↦ omega (arith, h, arcs-rise n starts places costs A a k j l (omega (arith, o .start)) (omega arith) s) ] }
+      start = o .start;
+      order = p;
+      end = omega (arith, o .end);
+      below = o .below;
+      above = λ j r s. elim (cases-eq j k) [
+        | inl t ↦ omega (arith, h, ap (λ i. getD places i 0) t)
+        | inr t ↦ omega (arith, h, arcs-rise n starts places costs A a k j l (omega (arith, o .start)) (omega arith) s)
+      ];
+    }
 
     pub halving-found : (k : ℕ) → low ≤ k → k < high → getD places k 0 ≡ e → getD costs k 0 ≡ mapIn n starts places costs .cost a e
     halving-found k p q h = sym (arc-cost n starts places costs A a k l (omega (arith, o .start)) (omega (arith, o .end))) ∙ ap (mapIn n starts places costs .cost a) h
 
     pub halving-end : e < n → high ≤ low → 0 ≡ mapIn n starts places costs .cost a e
-    halving-end m h = elim (cases-lt 0 (mapIn n starts places costs .cost a e))
-        [ inl p ↦ (let r = road-arc n starts places costs A a e l m p in elim (cases-lt (r .0) low)
-            [ inl s ↦ absurd (omega (arith, o .below (r .0) (r .1) s, r .3)) | inr s ↦ absurd (omega (arith, o .above (r .0) (omega arith) (r .2), r .3)) ])
-        | inr p ↦ omega arith ]
+    halving-end m h = elim (cases-lt 0 (mapIn n starts places costs .cost a e)) [
+      | inl p ↦ (let r = road-arc n starts places costs A a e l m p in elim (cases-lt (r .0) low)
+          [ inl s ↦ absurd (omega (arith, o .below (r .0) (r .1) s, r .3)) | inr s ↦ absurd (omega (arith, o .above (r .0) (omega arith) (r .2), r .3)) ])
+      | inr p ↦ omega arith
+    ]

@@ -1,9 +1,9 @@
 // The input of a program: the bytes of its files one after the other, or of standard input.
+use super::messages::Ended;
+use super::messages::complain;
 use std::env;
 use std::fs;
 use std::io::Read;
-use super::messages::Ended;
-use super::messages::complain;
 
 /// The words of a command line, without the program's own name.
 pub fn words(rt: &LibcRuntime, program: &str) -> Result<Vec<String>, Ended> {
@@ -39,7 +39,10 @@ fn add_file(rt: &LibcRuntime, program: &str, name: &str, bytes: &mut Vec<u8>) ->
 }
 
 fn unknown_option(rt: &LibcRuntime, program: &str, word: &str) -> Ended {
-    let _ = eprintln!(rt, "{program}: {word}: unknown option; it takes names of files, or - for standard input");
+    let _ = eprintln!(
+        rt,
+        "{program}: {word}: unknown option; it takes names of files, or - for standard input"
+    );
     Ended
 }
 

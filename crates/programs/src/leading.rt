@@ -1,13 +1,13 @@
 // A map that other documents follow in the same input: read, and said what follows.
-use documents::map::map_at;
-use maps::buf::RoadMapBuf;
-use reading::kinds::Stop;
-use reading::reader::Reader;
 use super::input::input;
 use super::input::words;
 use super::messages::Ended;
 use super::messages::complain;
 use super::messages::refuse;
+use documents::map::map_at;
+use maps::buf::RoadMapBuf;
+use reading::kinds::Stop;
+use reading::reader::Reader;
 
 // The map with which the bytes begin, and how many bytes follow it.
 fn read_leading_map(rt: &LibcRuntime, bytes: &[u8]) -> Result<(RoadMapBuf, usize), Stop> {
@@ -17,7 +17,12 @@ fn read_leading_map(rt: &LibcRuntime, bytes: &[u8]) -> Result<(RoadMapBuf, usize
 }
 
 fn show(rt: &LibcRuntime, program: &str, map: &RoadMapBuf, left: usize) -> Result<(), Ended> {
-    let said = println!(rt, "map: {} places, {} roads\nthen {left} bytes", map.len(), map.roads().len());
+    let said = println!(
+        rt,
+        "map: {} places, {} roads\nthen {left} bytes",
+        map.len(),
+        map.roads().len()
+    );
     match said {
         Ok(()) => Ok(()),
         Err(_) => Err(complain(rt, program, "standard output can't be written")),

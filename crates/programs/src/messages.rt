@@ -42,7 +42,10 @@ fn refuse_input(rt: &LibcRuntime, program: &str, refusal: Refusal) -> Ended {
     let index = refusal.at.index;
     let byte = refusal.at.byte;
     let words = words_of(refusal.fault);
-    let _ = eprintln!(rt, "{program}: fault {number}: {name} {index} at byte {byte}: {words}");
+    let _ = eprintln!(
+        rt,
+        "{program}: fault {number}: {name} {index} at byte {byte}: {words}"
+    );
     Ended
 }
 

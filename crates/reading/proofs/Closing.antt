@@ -16,7 +16,6 @@ closed-got None v a p next e = (refl, cc, cc)
 closed-got (Some f) v a p next e = let z : _≡_ {A = ℕ} 0 1 = cc in absurd (omega arith)
 
 module _ {A : Type 0} (r : List ℕ → Place → Read A) (write : A → List ℕ) (Valid : A → Type 0) (fits : Fits r write Valid) (fault : List ℕ → A → Place → Option Fault) where
-
   pub close-trip : (bytes rest : List ℕ) (at : Place) (a : A) → Valid a → ((p : Place) → p .byte ≡ at .byte + length (write a) → fault bytes a p ≡ None)
       → drop (at .byte) bytes ≡ write a ++ rest
       → Reads (then (r bytes at) (λ b p. closed (fault bytes b p) b p)) a (at .byte + length (write a))
@@ -30,12 +29,13 @@ module _ {A : Type 0} (r : List ℕ → Place → Read A) (write : A → List �
       let x = then-got (r bytes at) (λ b p. closed (fault bytes b p) b p) a next e in
       let y = closed-got (fault bytes (x .0) (x .1)) (x .0) a (x .1) next (x .3) in
       let p = fits .back bytes all at (x .1) (x .0) (x .2) in
-      let ends : x .1 .byte ≡ next .byte = ap (λ (q : Place). q .byte) (y .2) in
-      (subst Valid (y .1) (p .0),
-      p .1 ∙ ap (λ z. write z ++ drop (x .1 .byte) bytes) (y .1) ∙ ap (λ k. write a ++ drop k bytes) ends,
-      x .1,
-      ap (λ z. fault bytes z (x .1)) (sym (y .1)) ∙ y .0,
-      ends)
+      let ends : x .1 .byte ≡ next .byte = ap (λ (q : Place). q .byte) (y .2) in (
+        subst Valid (y .1) (p .0),
+        p .1 ∙ ap (λ z. write z ++ drop (x .1 .byte) bytes) (y .1) ∙ ap (λ k. write a ++ drop k bytes) ends,
+        x .1,
+        ap (λ z. fault bytes z (x .1)) (sym (y .1)) ∙ y .0,
+        ends,
+      )
 
   pub close-cut : (bytes s t : List ℕ) (at : Place) (a : A) → Valid a → drop (at .byte) bytes ≡ s → write a ≡ s ++ t → 0 < length t
       → Cut (then (r bytes at) (λ b p. closed (fault bytes b p) b p))

@@ -51,7 +51,6 @@ closed-bad (Some f) p a w t d says was = cc
 module _ {A B C : Type 0} (view : B → A) (seen : C → A) (x : Read A) (fault : A → Place → Option Fault) (p q : Place) (r : Result B Stop) (v : B) (w : C)
     (f : Option Fault) (t : Result C Refusal)
     (told : Told view x r p) (was : r ≡ Ok v) (holds : seen w ≡ view v) (judged : f ≡ fault (view v) p) (says : t ≡ answer (closed f w p)) where
-
   read-on : then x (λ a z. closed (fault a z) a z) ≡ closed f (view v) p
   read-on = ap (λ z. then z (λ a y. closed (fault a y) a y)) (told-got view x p r v told was) ∙ ap (λ z. closed z (view v) p) (sym judged)
 

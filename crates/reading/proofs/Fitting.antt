@@ -56,13 +56,12 @@ pub one-faultless : {A : Type 0} (shape : Shape A) (n : ℕ) (bytes : List ℕ) 
 one-faultless shape n bytes last at next a e =
     let v = shape .value (take (shape .size) (drop (at .byte) bytes)) in
     let p = cond-got (ltb (length bytes) (at .byte + shape .size)) (record { fault = Form; «record» = shape .sort; at = at })
-          (judged (shape .fault n last v) (shape .sort) v at (after at (shape .size))) a next e in
+    (judged (shape .fault n last v) (shape .sort) v at (after at (shape .size))) a next e in
     let j = judged-got (shape .fault n last v) (shape .sort) v a at (after at (shape .size)) next (p .1) in
     ap (λ z. shape .fault n last z) (sym (j .1)) ∙ j .0
 
 -- One record.
 module _ {A : Type 0} (shape : Shape A) (n : ℕ) (last : Option A) (write : A → List ℕ) (Valid : A → Type 0) (w : Written shape n last write Valid) where
-
   -- the record's own bytes, and what they say
   abbrev part : List ℕ → Place → List ℕ
   part bytes at = take (shape .size) (drop (at .byte) bytes)
@@ -76,12 +75,13 @@ module _ {A : Type 0} (shape : Shape A) (n : ℕ) (last : Option A) (write : A �
       let size-is : length (write a) ≡ shape .size = w .wide a in
       let long : length bytes - at .byte ≡ length (write a) + length rest = sym (length-drop (at .byte) bytes) ∙ ap length e ∙ length-append (write a) rest in
       let enough : ltb (length bytes) (at .byte + shape .size) ≡ false = le-ltb (length bytes) (at .byte + shape .size) (omega (arith, w .some)) in
-      let is : shape .value (part bytes at) ≡ a = ap (λ z. shape .value (take (shape .size) z)) e ∙ ap (shape .value) (take-at (write a) rest (shape .size) size-is) ∙ w .told a v in
-      (after at (shape .size),
-      ap (λ b. cond b (refuse Form (shape .sort) at) (verdict (shape .value (part bytes at)) at)) enough
-      ∙ ap (λ x. verdict x at) is
-      ∙ ap (λ f. judged f (shape .sort) a at (after at (shape .size))) (w .fair a v),
-      ap (λ k. at .byte + k) (sym size-is))
+      let is : shape .value (part bytes at) ≡ a = ap (λ z. shape .value (take (shape .size) z)) e ∙ ap (shape .value) (take-at (write a) rest (shape .size) size-is) ∙ w .told a v in (
+        after at (shape .size),
+        ap (λ b. cond b (refuse Form (shape .sort) at) (verdict (shape .value (part bytes at)) at)) enough
+            ∙ ap (λ x. verdict x at) is
+            ∙ ap (λ f. judged f (shape .sort) a at (after at (shape .size))) (w .fair a v),
+        ap (λ k. at .byte + k) (sym size-is),
+      )
 
   one-back : (bytes : List ℕ) → Bytes bytes → (at next : Place) (a : A) → one shape n bytes last at ≡ Got a next
       → Valid a × (drop (at .byte) bytes ≡ write a ++ drop (next .byte) bytes)
@@ -91,11 +91,12 @@ module _ {A : Type 0} (shape : Shape A) (n : ℕ) (last : Option A) (write : A �
       let enough : at .byte + shape .size ≤ length bytes = ltb-false (length bytes) (at .byte + shape .size) (p .0) in
       let long : length (part bytes at) ≡ shape .size = length-take-le (shape .size) (drop (at .byte) bytes) (omega (arith, length-drop (at .byte) bytes)) in
       let small : (k : ℕ) → k < shape .size → getD (part bytes at) k 0 < 256 =
-            λ k l. subst (λ x. x < 256) (sym (getD-take (shape .size) (drop (at .byte) bytes) k 0 l ∙ getD-drop (at .byte) bytes k 0)) (all (at .byte + k)) in
-      (subst Valid (j .1) (w .sure (part bytes at) long small (j .0)),
-      sym (take-append-drop (shape .size) (drop (at .byte) bytes))
-      ∙ ap (λ x. x ++ drop (shape .size) (drop (at .byte) bytes)) (sym (w .same (part bytes at) long small) ∙ ap write (j .1))
-      ∙ ap (λ x. write a ++ x) (drop-drop (shape .size) (at .byte) bytes ∙ ap (λ (x : Place). drop (x .byte) bytes) (j .2)))
+      λ k l. subst (λ x. x < 256) (sym (getD-take (shape .size) (drop (at .byte) bytes) k 0 l ∙ getD-drop (at .byte) bytes k 0)) (all (at .byte + k)) in (
+        subst Valid (j .1) (w .sure (part bytes at) long small (j .0)),
+        sym (take-append-drop (shape .size) (drop (at .byte) bytes))
+            ∙ ap (λ x. x ++ drop (shape .size) (drop (at .byte) bytes)) (sym (w .same (part bytes at) long small) ∙ ap write (j .1))
+            ∙ ap (λ x. write a ++ x) (drop-drop (shape .size) (at .byte) bytes ∙ ap (λ (x : Place). drop (x .byte) bytes) (j .2)),
+      )
 
   one-cut : (bytes s t : List ℕ) (at : Place) (a : A) → Valid a → drop (at .byte) bytes ≡ s → write a ≡ s ++ t → 0 < length t
       → Cut (one shape n bytes last at)
@@ -121,14 +122,17 @@ then-cut (Bad r) f h = h
 -- a front of two lists ends in the first, or holds it
 pub parted : (w j s t : List ℕ) → w ++ j ≡ s ++ t
     → ((w ≡ s ++ drop (length s) w) × (0 < length (drop (length s) w)))
-      ⊎ ((s ≡ w ++ drop (length w) s) × (j ≡ drop (length w) s ++ t))
+    ⊎ ((s ≡ w ++ drop (length w) s) × (j ≡ drop (length w) s ++ t))
 parted w j s t e =
     elim (cases-lt (length s) (length w)) [
-      inl l ↦
-        let l′ : length s ≤ length w = omega arith in
-        let h : take (length s) w ≡ s = sym (take-append-le (length s) w j l′) ∙ ap (take (length s)) e ∙ take-at s t (length s) refl in
-        inl (sym (take-append-drop (length s) w) ∙ ap (λ x. x ++ drop (length s) w) h, omega (arith, length-drop (length s) w))
-    | inr l ↦
-        let h : take (length w) s ≡ w = sym (take-append-le (length w) s t l) ∙ ap (take (length w)) (sym e) ∙ take-at w j (length w) refl in
-        inr (sym (take-append-drop (length w) s) ∙ ap (λ x. x ++ drop (length w) s) h,
-          sym (drop-at w j (length w) refl) ∙ ap (drop (length w)) e ∙ drop-append-le (length w) s t l) ]
+      | inl l ↦
+          let l′ : length s ≤ length w = omega arith in
+          let h : take (length s) w ≡ s = sym (take-append-le (length s) w j l′) ∙ ap (take (length s)) e ∙ take-at s t (length s) refl in
+          inl (sym (take-append-drop (length s) w) ∙ ap (λ x. x ++ drop (length s) w) h, omega (arith, length-drop (length s) w))
+      | inr l ↦
+          let h : take (length w) s ≡ w = sym (take-append-le (length w) s t l) ∙ ap (take (length w)) (sym e) ∙ take-at w j (length w) refl in
+          inr (
+            sym (take-append-drop (length w) s) ∙ ap (λ x. x ++ drop (length w) s) h,
+            sym (drop-at w j (length w) refl) ∙ ap (drop (length w)) e ∙ drop-append-le (length w) s t l,
+          )
+    ]

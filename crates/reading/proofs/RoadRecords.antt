@@ -23,16 +23,17 @@ road-is r {a} {b} {c} p q s =
 
 road-written : (n : ℕ) (last : Option Road) → Written roadShape n last roadBytes (SoundRoad n last)
 road-written n last = record {
-    some = omega arith;
-    wide = λ r. refl;
-    told = λ r v. road-is r (word-bytes (r .from)) (word-bytes (r .to)) (word-bytes (r .cost));
-    fair = sound-road n last;
-    sure = λ bs l small e. road-sound n last (roadOf bs) e;
-    same = λ bs l small.
+  some = omega arith;
+  wide = λ r. refl;
+  told = λ r v. road-is r (word-bytes (r .from)) (word-bytes (r .to)) (word-bytes (r .cost));
+  fair = sound-road n last;
+  sure = λ bs l small e. road-sound n last (roadOf bs) e;
+  same = λ bs l small.
       bytes-word (getD bs 0 0) (getD bs 1 0) _ (small 0 (omega arith)) (small 1 (omega arith))
       ∙ ap (λ z. getD bs 0 0 ∷ getD bs 1 0 ∷ z) (bytes-word (getD bs 2 0) (getD bs 3 0) _ (small 2 (omega arith)) (small 3 (omega arith)))
       ∙ ap (λ z. getD bs 0 0 ∷ getD bs 1 0 ∷ getD bs 2 0 ∷ getD bs 3 0 ∷ z) (bytes-word (getD bs 4 0) (getD bs 5 0) [] (small 4 (omega arith)) (small 5 (omega arith)))
-      ∙ spread-all 6 bs l }
+      ∙ spread-all 6 bs l;
+}
 
 -- the roads of a map of n places
 pub roads-fit : (n k : ℕ) → Fits (λ bytes at. many (one roadShape n bytes) k None at) (joined roadBytes) (λ xs. (length xs ≡ k) × Each (SoundRoad n) None xs)

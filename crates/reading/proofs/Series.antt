@@ -25,7 +25,6 @@ module _ {A B C : Type 0} (r₁ : List ℕ → Place → Read A) (w₁ : A → L
     (f : Fits r₁ w₁ V₁) (g : (a : A) → V₁ a → Fits (λ bytes. r₂ bytes a) w₂ (V₂ a))
     (whole : (c : C) → V c → V₁ (fst c) × V₂ (fst c) (snd c) × (make (fst c) (snd c) ≡ c))
     (parts : (a : A) (b : B) → V₁ a → V₂ a b → V (make a b) × (fst (make a b) ≡ a) × (snd (make a b) ≡ b)) where
-
   -- what comes after the first, and after both
   abbrev goOn : List ℕ → A → Place → Read C
   goOn bytes a p = then (r₂ bytes a (fresh p)) (λ b q. Got (make a b) q)
@@ -37,12 +36,13 @@ module _ {A B C : Type 0} (r₁ : List ℕ → Place → Read A) (w₁ : A → L
       let e₁ : drop (at .byte) bytes ≡ w₁ (fst c) ++ (w₂ (snd c) ++ rest) = e ∙ append-assoc (w₁ (fst c)) (w₂ (snd c)) rest in
       let x = f .trip bytes (w₂ (snd c) ++ rest) at (fst c) (h .0) e₁ in
       let e₂ = past bytes (w₁ (fst c)) (w₂ (snd c) ++ rest) (at .byte) (x .0 .byte) e₁ (x .2) in
-      let y = g (fst c) (h .0) .trip bytes rest (fresh (x .0)) (snd c) (h .1) e₂ in
-      (y .0,
-      ap (λ z. then z (goOn bytes)) (x .1)
-      ∙ ap (λ z. then z (λ b q. Got (make (fst c) b) q)) (y .1)
-      ∙ ap (λ z. Got z (y .0)) (h .2),
-      on-by (w₁ (fst c)) (w₂ (snd c)) (at .byte) (x .0 .byte) (y .0 .byte) (x .2) (y .2))
+      let y = g (fst c) (h .0) .trip bytes rest (fresh (x .0)) (snd c) (h .1) e₂ in (
+        y .0,
+        ap (λ z. then z (goOn bytes)) (x .1)
+            ∙ ap (λ z. then z (λ b q. Got (make (fst c) b) q)) (y .1)
+            ∙ ap (λ z. Got z (y .0)) (h .2),
+        on-by (w₁ (fst c)) (w₂ (snd c)) (at .byte) (x .0 .byte) (y .0 .byte) (x .2) (y .2),
+      )
 
   seq-back : (bytes : List ℕ) → Bytes bytes → (at next : Place) (c : C) → both make (r₁ bytes) (r₂ bytes) at ≡ Got c next
       → V c × (drop (at .byte) bytes ≡ (w₁ (fst c) ++ w₂ (snd c)) ++ drop (next .byte) bytes)
@@ -53,28 +53,30 @@ module _ {A B C : Type 0} (r₁ : List ℕ → Place → Read A) (w₁ : A → L
       let q = g (x .0) (p .0) .back bytes all (fresh (x .1)) (y .1) (y .0) (y .2) in
       let m = parts (x .0) (y .0) (p .0) (q .0) in
       let same : make (x .0) (y .0) ≡ c = let z = y .3 in cc in
-      let ends : y .1 ≡ next = let z = y .3 in cc in
-      (subst V same (m .0),
-      p .1
-      ∙ ap (λ z. w₁ (x .0) ++ z) (q .1)
-      ∙ sym (append-assoc (w₁ (x .0)) (w₂ (y .0)) (drop (y .1 .byte) bytes))
-      ∙ ap (λ (z : Place). (w₁ (x .0) ++ w₂ (y .0)) ++ drop (z .byte) bytes) ends
-      ∙ ap (λ z. (w₁ z ++ w₂ (y .0)) ++ drop (next .byte) bytes) (sym (m .1) ∙ ap fst same)
-      ∙ ap (λ z. (w₁ (fst c) ++ w₂ z) ++ drop (next .byte) bytes) (sym (m .2) ∙ ap snd same))
+      let ends : y .1 ≡ next = let z = y .3 in cc in (
+        subst V same (m .0),
+        p .1
+            ∙ ap (λ z. w₁ (x .0) ++ z) (q .1)
+            ∙ sym (append-assoc (w₁ (x .0)) (w₂ (y .0)) (drop (y .1 .byte) bytes))
+            ∙ ap (λ (z : Place). (w₁ (x .0) ++ w₂ (y .0)) ++ drop (z .byte) bytes) ends
+            ∙ ap (λ z. (w₁ z ++ w₂ (y .0)) ++ drop (next .byte) bytes) (sym (m .1) ∙ ap fst same)
+            ∙ ap (λ z. (w₁ (fst c) ++ w₂ z) ++ drop (next .byte) bytes) (sym (m .2) ∙ ap snd same),
+      )
 
   seq-cut : (bytes s t : List ℕ) (at : Place) (c : C) → V c → drop (at .byte) bytes ≡ s → w₁ (fst c) ++ w₂ (snd c) ≡ s ++ t → 0 < length t
       → Cut (both make (r₁ bytes) (r₂ bytes) at)
   seq-cut bytes s t at c v e k l =
       let h = whole c v in
       elim (parted (w₁ (fst c)) (w₂ (snd c)) s t k) [
-        inl u ↦ then-cut (r₁ bytes at) (goOn bytes) (f .cut bytes s (drop (length s) (w₁ (fst c))) at (fst c) (h .0) e (u .0) (u .1))
-      | inr u ↦
-          let left = drop (length (w₁ (fst c))) s in
-          let x = f .trip bytes left at (fst c) (h .0) (e ∙ u .0) in
-          let e₂ = past bytes (w₁ (fst c)) left (at .byte) (x .0 .byte) (e ∙ u .0) (x .2) in
-          subst (λ z. Cut (then z (goOn bytes))) (sym (x .1))
+        | inl u ↦ then-cut (r₁ bytes at) (goOn bytes) (f .cut bytes s (drop (length s) (w₁ (fst c))) at (fst c) (h .0) e (u .0) (u .1))
+        | inr u ↦
+            let left = drop (length (w₁ (fst c))) s in
+            let x = f .trip bytes left at (fst c) (h .0) (e ∙ u .0) in
+            let e₂ = past bytes (w₁ (fst c)) left (at .byte) (x .0 .byte) (e ∙ u .0) (x .2) in
+            subst (λ z. Cut (then z (goOn bytes))) (sym (x .1))
             (then-cut (r₂ bytes (fst c) (fresh (x .0))) (λ b q. Got (make (fst c) b) q)
-              (g (fst c) (h .0) .cut bytes left t (fresh (x .0)) (snd c) (h .1) e₂ (u .1) l)) ]
+            (g (fst c) (h .0) .cut bytes left t (fresh (x .0)) (snd c) (h .1) e₂ (u .1) l))
+      ]
 
   pub seq-fits : Fits (λ bytes. both make (r₁ bytes) (r₂ bytes)) (λ c. w₁ (fst c) ++ w₂ (snd c)) V
   seq-fits = record { trip = seq-trip; back = seq-back; cut = seq-cut }
@@ -82,7 +84,6 @@ module _ {A B C : Type 0} (r₁ : List ℕ → Place → Read A) (w₁ : A → L
 -- Some things of one sort.
 module _ {A : Type 0} (F : List ℕ → Option A → Place → Read A) (write : A → List ℕ) (Valid : Option A → A → Type 0)
     (fits : (last : Option A) → Fits (λ bytes. F bytes last) write (Valid last)) where
-
   -- what comes after the first of them
   abbrev others : List ℕ → ℕ → A → Place → Read (List A)
   others bytes k a p = then (many (F bytes) k (Some a) p) (λ rest q. Got (a ∷ rest) q)
@@ -94,10 +95,11 @@ module _ {A : Type 0} (F : List ℕ → Option A → Place → Read A) (write : 
       let e₁ : drop (at .byte) bytes ≡ write a ++ (joined write xs ++ rest) = e ∙ append-assoc (write a) (joined write xs) rest in
       let x = fits last .trip bytes (joined write xs ++ rest) at a (v .0) e₁ in
       let e₂ = past bytes (write a) (joined write xs ++ rest) (at .byte) (x .0 .byte) e₁ (x .2) in
-      let y = many-trip xs (Some a) bytes rest (x .0) (v .1) e₂ in
-      (y .0,
-      ap (λ z. then z (others bytes (length xs))) (x .1) ∙ ap (λ z. then z (λ ys q. Got (a ∷ ys) q)) (y .1),
-      on-by (write a) (joined write xs) (at .byte) (x .0 .byte) (y .0 .byte) (x .2) (y .2))
+      let y = many-trip xs (Some a) bytes rest (x .0) (v .1) e₂ in (
+        y .0,
+        ap (λ z. then z (others bytes (length xs))) (x .1) ∙ ap (λ z. then z (λ ys q. Got (a ∷ ys) q)) (y .1),
+        on-by (write a) (joined write xs) (at .byte) (x .0 .byte) (y .0 .byte) (x .2) (y .2),
+      )
 
   many-back : (k : ℕ) (last : Option A) (bytes : List ℕ) → Bytes bytes → (at next : Place) (xs : List A) → many (F bytes) k last at ≡ Got xs next
       → ((length xs ≡ k) × Each Valid last xs) × (drop (at .byte) bytes ≡ joined write xs ++ drop (next .byte) bytes)
@@ -110,12 +112,13 @@ module _ {A : Type 0} (F : List ℕ → Option A → Place → Read A) (write : 
       let q = many-back k (Some (x .0)) bytes all (x .1) (y .1) (y .0) (y .2) in
       let same : x .0 ∷ y .0 ≡ xs = let z = y .3 in cc in
       let ends : y .1 ≡ next = let z = y .3 in cc in
-      subst (λ (zs : List A). ((length zs ≡ suc k) × Each Valid last zs) × (drop (at .byte) bytes ≡ joined write zs ++ drop (next .byte) bytes)) same
-        ((ap suc (q .0 .0), (p .0, q .0 .1)),
+      subst (λ (zs : List A). ((length zs ≡ suc k) × Each Valid last zs) × (drop (at .byte) bytes ≡ joined write zs ++ drop (next .byte) bytes)) same (
+        (ap suc (q .0 .0), (p .0, q .0 .1)),
         p .1
-        ∙ ap (λ z. write (x .0) ++ z) (q .1)
-        ∙ sym (append-assoc (write (x .0)) (joined write (y .0)) (drop (y .1 .byte) bytes))
-        ∙ ap (λ (z : Place). (write (x .0) ++ joined write (y .0)) ++ drop (z .byte) bytes) ends)
+            ∙ ap (λ z. write (x .0) ++ z) (q .1)
+            ∙ sym (append-assoc (write (x .0)) (joined write (y .0)) (drop (y .1 .byte) bytes))
+            ∙ ap (λ (z : Place). (write (x .0) ++ joined write (y .0)) ++ drop (z .byte) bytes) ends,
+      )
 
   many-cut : (xs : List A) (last : Option A) (bytes s t : List ℕ) (at : Place) → Each Valid last xs → drop (at .byte) bytes ≡ s → joined write xs ≡ s ++ t → 0 < length t
       → Cut (many (F bytes) (length xs) last at)
@@ -123,20 +126,22 @@ module _ {A : Type 0} (F : List ℕ → Option A → Place → Read A) (write : 
       let z : 0 ≡ length s + length t = ap length k ∙ length-append s t in absurd (omega arith)
   many-cut (a ∷ xs) last bytes s t at v e k l =
       elim (parted (write a) (joined write xs) s t k) [
-        inl u ↦ then-cut (F bytes last at) (others bytes (length xs)) (fits last .cut bytes s (drop (length s) (write a)) at a (v .0) e (u .0) (u .1))
-      | inr u ↦
-          let left = drop (length (write a)) s in
-          let x = fits last .trip bytes left at a (v .0) (e ∙ u .0) in
-          let e₂ = past bytes (write a) left (at .byte) (x .0 .byte) (e ∙ u .0) (x .2) in
-          subst (λ z. Cut (then z (others bytes (length xs)))) (sym (x .1))
+        | inl u ↦ then-cut (F bytes last at) (others bytes (length xs)) (fits last .cut bytes s (drop (length s) (write a)) at a (v .0) e (u .0) (u .1))
+        | inr u ↦
+            let left = drop (length (write a)) s in
+            let x = fits last .trip bytes left at a (v .0) (e ∙ u .0) in
+            let e₂ = past bytes (write a) left (at .byte) (x .0 .byte) (e ∙ u .0) (x .2) in
+            subst (λ z. Cut (then z (others bytes (length xs)))) (sym (x .1))
             (then-cut (many (F bytes) (length xs) (Some a) (x .0)) (λ ys q. Got (a ∷ ys) q)
-              (many-cut xs (Some a) bytes left t (x .0) (v .1) e₂ (u .1) l)) ]
+            (many-cut xs (Some a) bytes left t (x .0) (v .1) e₂ (u .1) l))
+      ]
 
   pub many-fits : (k : ℕ) (last : Option A) → Fits (λ bytes at. many (F bytes) k last at) (joined write) (λ xs. (length xs ≡ k) × Each Valid last xs)
   many-fits k last = record {
-      trip = λ bytes rest at xs v e. subst (λ n. Reads (many (F bytes) n last at) xs (at .byte + length (joined write xs))) (v .0) (many-trip xs last bytes rest at (v .1) e);
-      back = λ bytes all at next xs e. many-back k last bytes all at next xs e;
-      cut = λ bytes s t at xs v e h l. subst (λ n. Cut (many (F bytes) n last at)) (v .0) (many-cut xs last bytes s t at (v .1) e h l) }
+    trip = λ bytes rest at xs v e. subst (λ n. Reads (many (F bytes) n last at) xs (at .byte + length (joined write xs))) (v .0) (many-trip xs last bytes rest at (v .1) e);
+    back = λ bytes all at next xs e. many-back k last bytes all at next xs e;
+    cut = λ bytes s t at xs v e h l. subst (λ n. Cut (many (F bytes) n last at)) (v .0) (many-cut xs last bytes s t at (v .1) e h l);
+  }
 
 -- what holds of each that is read holds of all
 pub many-each : {A : Type 0} (F : Option A → Place → Read A) (P : Option A → A → Type 0)

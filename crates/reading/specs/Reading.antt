@@ -66,9 +66,9 @@ pub record Shape (A : Type 0) : Type 0 where
 abbrev pub one : {A : Type 0} → Shape A → ℕ → List ℕ → Option A → Place → Read A
 one shape n bytes last at =
     cond (ltb (length bytes) (at .byte + shape .size))
-      (refuse Form (shape .sort) at)
-      (judged (shape .fault n last (shape .value (take (shape .size) (drop (at .byte) bytes))))
-        (shape .sort) (shape .value (take (shape .size) (drop (at .byte) bytes))) at (after at (shape .size)))
+    (refuse Form (shape .sort) at)
+    (judged (shape .fault n last (shape .value (take (shape .size) (drop (at .byte) bytes))))
+    (shape .sort) (shape .value (take (shape .size) (drop (at .byte) bytes))) at (after at (shape .size)))
 
 abbrev pub many : {A : Type 0} → (Option A → Place → Read A) → ℕ → Option A → Place → Read (List A)
 many step zero last at = Got [] at

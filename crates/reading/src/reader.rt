@@ -5,10 +5,10 @@ ghost use lib.ListN.{length, getD, take, drop};
 ghost use Rattle.std.specs.Options.{Cases as BySome};
 ghost use Rattle.reading.specs.Reading.{start, after, fresh, judged, closed, leftOver, word};
 ghost use Rattle.reading.specs.Telling.{answer, stands};
-use maps::kinds::Fault;
 use super::kinds::Place;
 use super::kinds::Record;
 use super::kinds::Refusal;
+use maps::kinds::Fault;
 
 /// The number in two bytes of a record, high byte first.
 pub fn word_at(part: &[u8], i: usize) -> u16
@@ -33,7 +33,10 @@ impl<'a> Reader<'a> {
     pub fn new(bytes: &'a [u8]) -> Reader<'a>
         ensures { λ r. ⌜ now (r .bytes) ≡ now (bytes .entry) ⌝ ∗ ⌜ r .at ≡ start ⌝ }
     {
-        Reader { bytes, at: Place { index: 0, byte: 0 } }
+        Reader {
+            bytes,
+            at: Place { index: 0, byte: 0 },
+        }
     }
 
     /// How many bytes are left.
@@ -48,7 +51,7 @@ impl<'a> Reader<'a> {
         ensures { λ r. ⌜ BySome r
             (length (now (now (self .entry) .bytes)) < now (self .entry) .at .byte + size)
             (λ s. (now (self .entry) .at .byte + size ≤ length (now (now (self .entry) .bytes))) × (length (now s) ≡ size)
-                × (now s ≡ take size (drop (now (self .entry) .at .byte) (now (now (self .entry) .bytes))))) ⌝ }
+            × (now s ≡ take size (drop (now (self .entry) .at .byte) (now (now (self .entry) .bytes))))) ⌝ }
     {
         if self.left() < size {
             return None;
@@ -61,7 +64,11 @@ impl<'a> Reader<'a> {
     pub fn refusal(&self, fault: Fault, record: Record) -> Refusal
         ensures { λ r. ⌜ r ≡ (record { fault = fault; «record» = «record»; at = now (self .entry) .at }) ⌝ }
     {
-        Refusal { fault, record, at: self.at }
+        Refusal {
+            fault,
+            record,
+            at: self.at,
+        }
     }
 
     /// Goes on to another sort of record: they are counted from 0 again.
@@ -73,7 +80,13 @@ impl<'a> Reader<'a> {
     }
 
     /// Passes a record of `size` bytes with its value, unless it has a fault.
-    pub fn pass<T: Drop>(&mut self, record: Record, size: usize, fault: Option<Fault>, value: T) -> Result<T, Refusal>
+    pub fn pass<T: Drop>(
+        &mut self,
+        record: Record,
+        size: usize,
+        fault: Option<Fault>,
+        value: T,
+    ) -> Result<T, Refusal>
         requires { ⌜ 0 < size ⌝ ∗ ⌜ now self .at .byte + size ≤ length (now (now self .bytes)) ⌝ }
         ensures value { λ r. ⌜ r ≡ answer (judged fault «record» value (now (self .entry) .at) (after (now (self .entry) .at) size)) ⌝ }
         ensures at { λ r. ⌜ now (self .exit) .at ≡ stands (judged fault «record» value (now (self .entry) .at) (after (now (self .entry) .at) size)) (now (self .entry) .at) ⌝ }
@@ -82,7 +95,10 @@ impl<'a> Reader<'a> {
         match fault {
             Some(fault) => Err(self.refusal(fault, record)),
             None => {
-                self.at = Place { index: self.at.index + 1, byte: self.at.byte + size };
+                self.at = Place {
+                    index: self.at.index + 1,
+                    byte: self.at.byte + size,
+                };
                 Ok(value)
             }
         }
@@ -92,7 +108,11 @@ impl<'a> Reader<'a> {
     pub fn left_over(&self) -> Option<Fault>
         ensures { λ r. ⌜ r ≡ leftOver (now (now (self .entry) .bytes)) (now (self .entry) .at) ⌝ }
     {
-        if self.at.byte == self.bytes.len() { None } else { Some(Fault::Form) }
+        if self.at.byte == self.bytes.len() {
+            None
+        } else {
+            Some(Fault::Form)
+        }
     }
 
     /// Passes the end of a document with its value, unless the whole has a fault.

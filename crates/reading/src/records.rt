@@ -6,14 +6,14 @@ ghost use Rattle.std.specs.Of.Vec.{vec-items};
 ghost use Rattle.std.specs.declared.option.Option.the-variants.{None};
 ghost use Rattle.reading.specs.Reading.{Shape, one, many};
 ghost use Rattle.reading.specs.Telling.{answer, stands, Told};
-use std::alloc::Global;
-use maps::kinds::Fault;
 use super::kinds::Record;
 use super::kinds::Refusal;
 use super::kinds::Stop;
 use super::reader::Reader;
 use super::stops::StopFromRefusal;
 use super::stops::StopFromRefused;
+use maps::kinds::Fault;
+use std::alloc::Global;
 
 /// A sort of record: how long it is, what its bytes mean, and what can be wrong with it.
 pub trait Recorded: Copy + Drop {
@@ -38,7 +38,11 @@ pub trait Recorded: Copy + Drop {
 }
 
 /// The next record, in a map of `n` places and after the record `last` of its sort.
-pub fn read_record<T: Recorded>(from: &mut Reader<'_>, n: u16, last: Option<T>) -> Result<T, Refusal>
+pub fn read_record<T: Recorded>(
+    from: &mut Reader<'_>,
+    n: u16,
+    last: Option<T>,
+) -> Result<T, Refusal>
     ensures value { λ r. ⌜ r ≡ answer (one (T·Recorded .shape) n (now (now (from .entry) .bytes)) last (now (from .entry) .at)) ⌝ }
     ensures at { λ r. ⌜ now (from .exit) .at ≡ stands (one (T·Recorded .shape) n (now (now (from .entry) .bytes)) last (now (from .entry) .at)) (now (from .entry) .at) ⌝ }
     ensures same { λ r. ⌜ now (now (from .exit) .bytes) ≡ now (now (from .entry) .bytes) ⌝ }
@@ -51,7 +55,12 @@ pub fn read_record<T: Recorded>(from: &mut Reader<'_>, n: u16, last: Option<T>) 
 }
 
 /// The next `count` records of one sort, in a map of `n` places. For want of memory nothing is kept.
-pub fn read_records<T: Recorded>(heap: Global, from: &mut Reader<'_>, n: u16, count: u16) -> Result<Vec<T>, Stop>
+pub fn read_records<T: Recorded>(
+    heap: Global,
+    from: &mut Reader<'_>,
+    n: u16,
+    count: u16,
+) -> Result<Vec<T>, Stop>
     ensures told { λ r. ⌜ Told vec-items (many (one (T·Recorded .shape) n (now (now (from .entry) .bytes))) count None (now (from .entry) .at)) r (now (from .exit) .at) ⌝ }
     ensures same { λ r. ⌜ now (now (from .exit) .bytes) ≡ now (now (from .entry) .bytes) ⌝ }
 {

@@ -4,13 +4,13 @@ ghost use Rattle.std.specs.Of.Vec.{vec-items};
 ghost use Rattle.maps.specs.Roads.{roadFault};
 ghost use Rattle.reading.specs.Roads.{roadShape, roadBytes};
 ghost use Rattle.reading.specs.Writing.{Wrote};
-use std::alloc::AllocError;
-use maps::kinds::Fault;
-use maps::kinds::Road;
 use super::kinds::Record;
 use super::reader::word_at;
 use super::records::Recorded;
 use super::writer::Put;
+use maps::kinds::Fault;
+use maps::kinds::Road;
+use std::alloc::AllocError;
 
 pub impl Recorded for Road as RoadRecorded {
     ghost shape = { roadShape };
@@ -24,7 +24,11 @@ pub impl Recorded for Road as RoadRecorded {
     }
 
     fn decode(part: &[u8]) -> Road {
-        Road { from: word_at(part, 0), to: word_at(part, 2), cost: word_at(part, 4) }
+        Road {
+            from: word_at(part, 0),
+            to: word_at(part, 2),
+            cost: word_at(part, 4),
+        }
     }
 
     fn judge(self, n: u16, last: Option<Road>) -> Option<Fault>

@@ -2,11 +2,11 @@
 ghost use mathlib.Core.Path.{_≡_};
 ghost use Rattle.reading.specs.declared.kinds.Stop.the-variants.{Input, Memory};
 ghost use Rattle.reading.specs.Telling.{faultOf};
-use std::alloc::AllocError;
-use std::alloc::Refused;
-use maps::kinds::Fault;
 use super::kinds::Refusal;
 use super::kinds::Stop;
+use maps::kinds::Fault;
+use std::alloc::AllocError;
+use std::alloc::Refused;
 
 impl Stop {
     /// The fault for which reading stopped; want of memory is one of its own.

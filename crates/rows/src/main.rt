@@ -1,6 +1,4 @@
 // The program `rows`: prints all distances and next places of a map, or works them out some times and prints their sum.
-use std::fmt::Write;
-use std::string::String;
 use distances::rows::all_rows;
 use distances::rows::row;
 use documents::map::read_map;
@@ -11,13 +9,20 @@ use programs::input::words;
 use programs::messages::Ended;
 use programs::messages::complain;
 use programs::messages::refuse;
+use std::fmt::Write;
+use std::string::String;
 
 // Prints the row of place `d`: the distance from each place, and the next place from it.
 fn show_row(rt: &LibcRuntime, d: usize, dist: &[u32], next: &[u16]) -> Result<(), Ended> {
     let mut line = String::new(rt.alloc());
     let mut made = write!(line, "to {d}:").is_ok();
     for (x, e) in dist.iter().zip(next) {
-        made = made && if *e == u16::MAX { write!(line, " {x}/-").is_ok() } else { write!(line, " {x}/{e}").is_ok() };
+        made = made
+            && if *e == u16::MAX {
+                write!(line, " {x}/-").is_ok()
+            } else {
+                write!(line, " {x}/{e}").is_ok()
+            };
     }
     if made && println!(rt, "{line}").is_ok() {
         return Ok(());

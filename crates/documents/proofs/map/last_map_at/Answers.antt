@@ -16,11 +16,12 @@ returns-in-Break-close c =
     let at = c .roads-at .last .from .at in
     record {
       told = end-bad charted charted (readRoads (c .args .from .now .bytes .now) (c .args .from .now .at)) (lastFault (c .args .from .now .bytes .now)) at (c .close .last .self .at)
-        (c .roads-at .result) m m (c .fault-of-last-fault .result) (c .close .result)
-        (c .roads-at .ensures .told) (c .in-Continue-map .was tt) refl 
-        (c .fault-of-last-fault .ensures ∙ ap (λ (b : List ℕ). lastFault b (charted m) at) (c .roads-at .ensures .same)) (c .close .ensures .value)
-        (c .in-Break-close .was tt) (p .1) (p .2);
-      same = search needs }
+          (c .roads-at .result) m m (c .fault-of-last-fault .result) (c .close .result)
+          (c .roads-at .ensures .told) (c .in-Continue-map .was tt) refl
+          (c .fault-of-last-fault .ensures ∙ ap (λ (b : List ℕ). lastFault b (charted m) at) (c .roads-at .ensures .same)) (c .close .ensures .value)
+          (c .in-Break-close .was tt) (p .1) (p .2);
+      same = search needs;
+    }
 
 pub returns : need.returns
 returns c =
@@ -28,8 +29,9 @@ returns c =
     let at = c .roads-at .last .from .at in
     record {
       told = end-ok charted charted (readRoads (c .args .from .now .bytes .now) (c .args .from .now .at)) (lastFault (c .args .from .now .bytes .now)) at (c .close .last .self .at)
-        (c .roads-at .result) m m (c .fault-of-last-fault .result) (c .close .result)
-        (c .roads-at .ensures .told) (c .in-Continue-map .was tt) refl 
-        (c .fault-of-last-fault .ensures ∙ ap (λ (b : List ℕ). lastFault b (charted m) at) (c .roads-at .ensures .same)) (c .close .ensures .value)
-        (c .in-Continue-close .field-0) (c .in-Continue-close .was tt) (c .close .ensures .at);
-      same = search needs }
+          (c .roads-at .result) m m (c .fault-of-last-fault .result) (c .close .result)
+          (c .roads-at .ensures .told) (c .in-Continue-map .was tt) refl
+          (c .fault-of-last-fault .ensures ∙ ap (λ (b : List ℕ). lastFault b (charted m) at) (c .roads-at .ensures .same)) (c .close .ensures .value)
+          (c .in-Continue-close .field-0) (c .in-Continue-close .was tt) (c .close .ensures .at);
+      same = search needs;
+    }

@@ -14,10 +14,11 @@ returns-in-Break-close c =
     let at = c .roads-at .last .from .at in
     record {
       told = end-bad charted charted (readRoads (c .args .from .now .bytes .now) (c .args .from .now .at)) (λ m p. apart m) at (c .close .last .self .at)
-        (c .roads-at .result) m m (c .fault-of-whole-apart .result) (c .close .result)
-        (c .roads-at .ensures .told) (c .in-Continue-map .was tt) refl (c .fault-of-whole-apart .ensures) (c .close .ensures .value)
-        (c .in-Break-close .was tt) (p .1) (p .2);
-      same = search needs }
+          (c .roads-at .result) m m (c .fault-of-whole-apart .result) (c .close .result)
+          (c .roads-at .ensures .told) (c .in-Continue-map .was tt) refl (c .fault-of-whole-apart .ensures) (c .close .ensures .value)
+          (c .in-Break-close .was tt) (p .1) (p .2);
+      same = search needs;
+    }
 
 pub returns : need.returns
 returns c =
@@ -25,7 +26,8 @@ returns c =
     let at = c .roads-at .last .from .at in
     record {
       told = end-ok charted charted (readRoads (c .args .from .now .bytes .now) (c .args .from .now .at)) (λ m p. apart m) at (c .close .last .self .at)
-        (c .roads-at .result) m m (c .fault-of-whole-apart .result) (c .close .result)
-        (c .roads-at .ensures .told) (c .in-Continue-map .was tt) refl (c .fault-of-whole-apart .ensures) (c .close .ensures .value)
-        (c .in-Continue-close .field-0) (c .in-Continue-close .was tt) (c .close .ensures .at);
-      same = search needs }
+          (c .roads-at .result) m m (c .fault-of-whole-apart .result) (c .close .result)
+          (c .roads-at .ensures .told) (c .in-Continue-map .was tt) refl (c .fault-of-whole-apart .ensures) (c .close .ensures .value)
+          (c .in-Continue-close .field-0) (c .in-Continue-close .was tt) (c .close .ensures .at);
+      same = search needs;
+    }

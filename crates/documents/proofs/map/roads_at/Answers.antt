@@ -18,11 +18,11 @@ built-requires c κs =
     let b = c .args .from .now .bytes .now in
     let at = c .args .from .now .at in
     sound-map (h .places) roads
-      (chart-sound b at (c .read-records .last .from .at) (record { places = h .places; roads = roads })
-        (roads-got vec-items b (c .begin .last .self .bytes .now) at (c .read-record .last .from .at) (c .begin .last .self .at) (c .read-records .last .from .at) h (c .in-Continue-roads .roads)
-          (c .read-record .result) (c .read-records .result)
-          (c .in-Continue-head .was tt) (c .read-record .ensures .value) (c .read-record .ensures .at) (c .begin .ensures .same ∙ c .read-record .ensures .same) (c .begin .ensures .at)
-          (c .in-Continue-roads .was tt) (c .read-records .ensures .told)))
+    (chart-sound b at (c .read-records .last .from .at) (record { places = h .places; roads = roads })
+    (roads-got vec-items b (c .begin .last .self .bytes .now) at (c .read-record .last .from .at) (c .begin .last .self .at) (c .read-records .last .from .at) h (c .in-Continue-roads .roads)
+    (c .read-record .result) (c .read-records .result)
+    (c .in-Continue-head .was tt) (c .read-record .ensures .value) (c .read-record .ensures .at) (c .begin .ensures .same ∙ c .read-record .ensures .same) (c .begin .ensures .at)
+    (c .in-Continue-roads .was tt) (c .read-records .ensures .told)))
 
 pub returns : need.returns
 returns c =
@@ -32,9 +32,10 @@ returns c =
     let q = c .read-records .last .from .at in
     record {
       told = told-ok charted (readRoads b at) (c .in-Continue-map .map) q
-        (roads-got vec-items b (c .begin .last .self .bytes .now) at (c .read-record .last .from .at) (c .begin .last .self .at) q h (c .in-Continue-roads .roads)
+          (roads-got vec-items b (c .begin .last .self .bytes .now) at (c .read-record .last .from .at) (c .begin .last .self .at) q h (c .in-Continue-roads .roads)
           (c .read-record .result) (c .read-records .result)
           (c .in-Continue-head .was tt) (c .read-record .ensures .value) (c .read-record .ensures .at) (c .begin .ensures .same ∙ c .read-record .ensures .same) (c .begin .ensures .at)
           (c .in-Continue-roads .was tt) (c .read-records .ensures .told)
-        ∙ ap (λ (z : Charted). Got z q) (sym (c .in-Continue-map .ensures tt)));
-      same = search needs }
+          ∙ ap (λ (z : Charted). Got z q) (sym (c .in-Continue-map .ensures tt)));
+      same = search needs;
+    }

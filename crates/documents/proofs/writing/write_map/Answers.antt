@@ -15,7 +15,7 @@ use Rattle.documents.proofs.writing.write_map.Needs as need
 pub returns-in-Err : need.returns-in-Err
 returns-in-Err c =
     undone (vec-items (c .args .out .now)) (headBytes (record { kind = 1; places = c .len .result; roads = length (c .roads-roads .result .now) })) (vec-items (c .put-all .last .out)) _ (c .len-old .result)
-      (c .len-old .ensures ∙ c .args .out .now .ok .0) (c .in-Err .ensures tt ∙ c .in-Continue-put .ensures tt) (c .truncate .ensures .items)
+    (c .len-old .ensures ∙ c .args .out .now .ok .0) (c .in-Err .ensures tt ∙ c .in-Continue-put .ensures tt) (c .truncate .ensures .items)
 
 pub returns : need.returns
 returns c =
@@ -25,7 +25,7 @@ returns c =
     let first : vec-items (c .put .last .out) ≡ old ++ headBytes (record { kind = 1; places = c .len .result; roads = length (c .roads-roads .result .now) }) = c .in-Continue-put .ensures tt in
     let others : vec-items (c .put-all .last .out) ≡ vec-items (c .put .last .out) ++ joined roadBytes (c .roads-roads .result .now) = c .in-rest .ensures tt in
     wrote old (headBytes (headIn (charted m))) (joined roadBytes roads)
-      (first
-      ∙ ap (λ (k : ℕ). old ++ headBytes (record { kind = 1; places = k; roads = length (c .roads-roads .result .now) })) (c .len .ensures)
-      ∙ ap (λ (xs : List Road). old ++ headBytes (record { kind = 1; places = m .n; roads = length xs })) (c .roads-roads .ensures))
-      (others ∙ ap (λ (xs : List Road). vec-items (c .put .last .out) ++ joined roadBytes xs) (c .roads-roads .ensures))
+    (first
+    ∙ ap (λ (k : ℕ). old ++ headBytes (record { kind = 1; places = k; roads = length (c .roads-roads .result .now) })) (c .len .ensures)
+    ∙ ap (λ (xs : List Road). old ++ headBytes (record { kind = 1; places = m .n; roads = length xs })) (c .roads-roads .ensures))
+    (others ∙ ap (λ (xs : List Road). vec-items (c .put .last .out) ++ joined roadBytes xs) (c .roads-roads .ensures))

@@ -12,5 +12,7 @@ part-requires c κs =
 pub part-requires-2 : need.part-requires-2
 part-requires-2 c κs =
     let m = c .args .self .now in
-    record { forward = view-arcs m .rises (c .args .a) (omega arith);
-             within = omega (arith, starts-most (m .n) (m .starts .now) (m .places .now) (m .costs .now) (view-arcs m) (c .args .a + 1) (omega arith), view-arcs m .level) }
+    record {
+      forward = view-arcs m .rises (c .args .a) (omega arith);
+      within = omega (arith, starts-most (m .n) (m .starts .now) (m .places .now) (m .costs .now) (view-arcs m) (c .args .a + 1) (omega arith), view-arcs m .level);
+    }

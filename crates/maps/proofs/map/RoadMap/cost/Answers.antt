@@ -10,9 +10,10 @@ use Rattle.maps.proofs.map.RoadMap.cost.Needs.{then-a-self·by·then-a-self, t
 pub returns-then-a-self : need.returns-then-a-self
 returns-then-a-self c =
     let m = c .args .self .now in
-    elim (c .then-a-self .came)
-      [ then-a-self·by·then-a-self w ↦ sym (past-row (m .n) (m .starts .now) (m .places .now) (m .costs .now) (view-arcs m) (c .args .a) (c .args .e) (w .if-a-self .taken))
-      | then-a-self·by·else-a-self·then-e-self w ↦ sym (past-column (m .n) (m .starts .now) (m .places .now) (m .costs .now) (view-arcs m) (c .args .a) (c .args .e) (w .if-e-self .taken)) ]
+    elim (c .then-a-self .came) [
+      | then-a-self·by·then-a-self w ↦ sym (past-row (m .n) (m .starts .now) (m .places .now) (m .costs .now) (view-arcs m) (c .args .a) (c .args .e) (w .if-a-self .taken))
+      | then-a-self·by·else-a-self·then-e-self w ↦ sym (past-column (m .n) (m .starts .now) (m .places .now) (m .costs .now) (view-arcs m) (c .args .a) (c .args .e) (w .if-e-self .taken))
+    ]
 
 pub index-self-a : need.index-self-a
 index-self-a c = let l = view-arcs (c .args .self .now) .long in omega arith
