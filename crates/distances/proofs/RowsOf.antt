@@ -38,12 +38,14 @@ mid-long d n xs ys dn long ly =
 rows-more : (n d q : ℕ) (xs ys : List ℕ) (value : ℕ → ℕ → ℕ) → d < n → length xs ≡ n * n → length ys ≡ n
     → ((e a : ℕ) → e < d → a < n → getD xs (e * n + a) 0 ≡ value e a) → ((a : ℕ) → a < n → getD ys a 0 ≡ value d a)
     → (e a : ℕ) → e < d + 1 → a < n → getD (putMid (d * n) q xs ys) (e * n + a) 0 ≡ value e a
-rows-more n d q xs ys value dn long ly old new e a l m = elim (cases-eq e d)
-    [ inl s ↦ ap (λ k. getD (putMid (d * n) q xs ys) (k * n + a) 0) s ∙ mid-here (d * n) q xs ys a (omega arith) (omega (arith, row-fits d n dn)) ∙ new a m ∙ ap (λ k. value k a) (sym s)
-    | inr s ↦ mid-below (d * n) q xs ys (e * n + a) (omega (arith, mul-add-lt e n a d (omega arith) m)) (omega (arith, row-fits d n dn)) ∙ old e a (omega arith) m ]
+rows-more n d q xs ys value dn long ly old new e a l m = elim (cases-eq e d) [
+  | inl s ↦ ap (λ k. getD (putMid (d * n) q xs ys) (k * n + a) 0) s ∙ mid-here (d * n) q xs ys a (omega arith) (omega (arith, row-fits d n dn)) ∙ new a m ∙ ap (λ k. value k a) (sym s)
+  | inr s ↦ mid-below (d * n) q xs ys (e * n + a) (omega (arith, mul-add-lt e n a d (omega arith) m)) (omega (arith, row-fits d n dn)) ∙ old e a (omega arith) m
+]
 
 pub before-more : (z : Map) (n d q r : ℕ) (dist next drow nrow : List ℕ) → z .n ≡ n → d < n → length dist ≡ n * n → length next ≡ n * n → length drow ≡ n → length nrow ≡ n
     → RowsBefore z n d dist next → FarRow z d drow → HopRow z d nrow → RowsBefore z n (d + 1) (putMid (d * n) q dist drow) (putMid (d * n) r next nrow)
 before-more z n d q r dist next drow nrow zn dn ld ln lf lh o f h = record {
-    dists = rows-more n d q dist drow (λ e a. farNumber (far z e a)) dn ld lf (o .dists) (λ a l. f a (omega arith));
-    nexts = rows-more n d r next nrow (λ e a. hopNumber (hop z e a)) dn ln lh (o .nexts) (λ a l. h a (omega arith)) }
+  dists = rows-more n d q dist drow (λ e a. farNumber (far z e a)) dn ld lf (o .dists) (λ a l. f a (omega arith));
+  nexts = rows-more n d r next nrow (λ e a. hopNumber (hop z e a)) dn ln lh (o .nexts) (λ a l. h a (omega arith));
+}

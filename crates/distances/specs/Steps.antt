@@ -28,5 +28,5 @@ Leads c away x = (0 < c) × (c + x ≡ away)
 abbrev pub FirstOn : List ℕ → List ℕ → ℕ → List ℕ → ℕ → Type 0
 FirstOn places costs away dist r =
     ((k : ℕ) × (k < length places) × (getD places k 0 ≡ r) × Leads (getD costs k 0) away (getD dist r 0)
-        × ((j : ℕ) → j < k → Leads (getD costs j 0) away (getD dist (getD places j 0) 0) → ⊥))
+    × ((j : ℕ) → j < k → Leads (getD costs j 0) away (getD dist (getD places j 0) 0) → ⊥))
     ⊎ ((r ≡ 65535) × ((k : ℕ) → k < length places → Leads (getD costs k 0) away (getD dist (getD places k 0) 0) → ⊥))

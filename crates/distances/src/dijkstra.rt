@@ -5,8 +5,8 @@ ghost use lib.ListN.{length, getD};
 ghost use Rattle.maps.specs.Charts.{chart};
 ghost use Rattle.distances.specs.Rows.{FarRow};
 ghost use Rattle.distances.specs.Steps.{Followed};
-use maps::map::RoadMap;
 use crate::queue::Queue;
+use maps::map::RoadMap;
 
 /// Follows the arcs of a place at the distance `away`: each place to which one leads and that gets closer by it waits at its new distance.
 fn follow(places: &[u16], costs: &[u16], away: u32, dist: &mut [u32], queue: &mut Queue)

@@ -3,8 +3,8 @@ ghost use mathlib.Core.Path.{_≡_};
 ghost use lib.ListN.{length};
 ghost use Rattle.ways.specs.Ways.{hangsTogether};
 ghost use Rattle.maps.specs.Charts.{chart};
-use maps::map::RoadMap;
 use crate::dijkstra::distances;
+use maps::map::RoadMap;
 
 /// The same, in lent memory for the distances to place 0, which is left with them.
 fn reaches_all(map: &RoadMap<'_>, dist: &mut [u32]) -> bool

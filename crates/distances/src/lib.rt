@@ -4,3 +4,5 @@ pub mod joined;
 mod nexts;
 mod queue;
 pub mod rows;
+#[cfg(test)]
+mod tests;

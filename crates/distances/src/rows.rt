@@ -4,10 +4,10 @@ ghost use Prim.Native.Nat.{ℕ, _*_, _<_, _≤_};
 ghost use lib.ListN.{length};
 ghost use Rattle.maps.specs.Charts.{chart};
 ghost use Rattle.distances.specs.Rows.{FarRow, HopRow, Worked, WorkedAll};
-use maps::kinds::Fault;
-use maps::map::RoadMap;
 use crate::dijkstra::distances;
 use crate::nexts::nexts;
+use maps::kinds::Fault;
+use maps::map::RoadMap;
 
 /// Works out one row in memory of the right size.
 fn work_out(map: &RoadMap<'_>, d: usize, dist: &mut [u32], next: &mut [u16])

@@ -9,13 +9,7 @@ use lib.ListN.{length, getD, take, drop}
 use Rattle.std.proofs.shelf.Edits.{length-between, getD-between}
 use Rattle.std.proofs.shelf.Tests.{lt-ltb}
 use Rattle.maps.specs.Arcs.{Arcs, arcPart}
-use Rattle.maps.specs.declared.map.RoadMap.{RoadMap}
-use Rattle.maps.proofs.SoundArcs.{arcs-of}
 use Rattle.maps.proofs.Costs.{starts-most}
-
--- what is known of every map in memory
-pub facts : (m : RoadMap) → Arcs (m .n) (m .starts .now) (m .places .now) (m .costs .now)
-facts m = arcs-of (m .n) (m .starts .now) (m .places .now) (m .costs .now) (m .sound)
 
 part-is : (n : ℕ) (starts xs : List ℕ) (a : ℕ) → a < n → arcPart n starts xs a ≡ take (getD starts (a + 1) 0 - getD starts a 0) (drop (getD starts a 0) xs)
 part-is n starts xs a l = ap (λ b. cond b (take (getD starts (a + 1) 0 - getD starts a 0) (drop (getD starts a 0) xs)) []) (lt-ltb a n l)

@@ -15,18 +15,20 @@ use Rattle.maps.specs.Arcs.{lookup, mapIn, Arcs, Meaning}
 pub lookup-some : (places costs : List ℕ) (e m k : ℕ) → 0 < lookup places costs e k m → (j : ℕ) × (k ≤ j) × (j < k + m) × (getD places j 0 ≡ e) × (lookup places costs e k m ≡ getD costs j 0)
 unfolding lookup
 lookup-some places costs e zero k h = absurd (omega arith)
-lookup-some places costs e (suc m) k h = elim (cases-eq (getD places k 0) e)
-    [ inl p ↦ (k, omega arith, omega arith, p, ap (λ b. cond b (getD costs k 0) (lookup places costs e (k + 1) m)) (eq-eqb (getD places k 0) e p))
-    | inr p ↦ (let x : lookup places costs e k (suc m) ≡ lookup places costs e (k + 1) m = ap (λ b. cond b (getD costs k 0) (lookup places costs e (k + 1) m)) (ne-eqb (getD places k 0) e p) in
-               let r = lookup-some places costs e m (k + 1) (omega (arith, x, h)) in
-               (r .0, omega (arith, r .1), omega (arith, r .2), r .3, x ∙ r .4)) ]
+lookup-some places costs e (suc m) k h = elim (cases-eq (getD places k 0) e) [
+  | inl p ↦ (k, omega arith, omega arith, p, ap (λ b. cond b (getD costs k 0) (lookup places costs e (k + 1) m)) (eq-eqb (getD places k 0) e p))
+  | inr p ↦ (let x : lookup places costs e k (suc m) ≡ lookup places costs e (k + 1) m = ap (λ b. cond b (getD costs k 0) (lookup places costs e (k + 1) m)) (ne-eqb (getD places k 0) e p) in
+      let r = lookup-some places costs e m (k + 1) (omega (arith, x, h)) in
+      (r .0, omega (arith, r .1), omega (arith, r .2), r .3, x ∙ r .4))
+]
 
 pub lookup-is : (places costs : List ℕ) (e j m k : ℕ) → k ≤ j → j < k + m → getD places j 0 ≡ e → ((i : ℕ) → k ≤ i → i < j → getD places i 0 ≡ e → ⊥) → lookup places costs e k m ≡ getD costs j 0
 unfolding lookup
 lookup-is places costs e j zero k l h p ne = absurd (omega arith)
-lookup-is places costs e j (suc m) k l h p ne = elim (cases-eq k j)
-    [ inl q ↦ ap (λ b. cond b (getD costs k 0) (lookup places costs e (k + 1) m)) (eq-eqb (getD places k 0) e (ap (λ i. getD places i 0) q ∙ p)) ∙ ap (λ i. getD costs i 0) q
-    | inr q ↦ ap (λ b. cond b (getD costs k 0) (lookup places costs e (k + 1) m)) (ne-eqb (getD places k 0) e (ne k (omega arith) (omega arith))) ∙ lookup-is places costs e j m (k + 1) (omega arith) (omega arith) p (λ i a b. ne i (omega arith) b) ]
+lookup-is places costs e j (suc m) k l h p ne = elim (cases-eq k j) [
+  | inl q ↦ ap (λ b. cond b (getD costs k 0) (lookup places costs e (k + 1) m)) (eq-eqb (getD places k 0) e (ap (λ i. getD places i 0) q ∙ p)) ∙ ap (λ i. getD costs i 0) q
+  | inr q ↦ ap (λ b. cond b (getD costs k 0) (lookup places costs e (k + 1) m)) (ne-eqb (getD places k 0) e (ne k (omega arith) (omega arith))) ∙ lookup-is places costs e j m (k + 1) (omega arith) (omega arith) p (λ i a b. ne i (omega arith) b)
+]
 
 module _ (n : ℕ) (starts places costs : List ℕ) (A : Arcs n starts places costs) where
   rest-most : (m a : ℕ) → a + m ≡ n → getD starts a 0 ≤ length places
@@ -61,30 +63,35 @@ module _ (n : ℕ) (starts places costs : List ℕ) (A : Arcs n starts places co
       let r = lookup-some places costs e (getD starts (a + 1) 0 - getD starts a 0) (getD starts a 0) (omega (arith, x, h)) in
       (r .0, r .1, omega (arith, r .2, A .rises a l), r .3, x ∙ r .4)
 
-  past-row : (a e : ℕ) → n ≤ a → mapIn n starts places costs .cost a e ≡ 0
+  pub past-row : (a e : ℕ) → n ≤ a → mapIn n starts places costs .cost a e ≡ 0
   past-row a e h = ap (λ b. cond b (lookup places costs e (getD starts a 0) (getD starts (a + 1) 0 - getD starts a 0)) 0) (and-left (ltb a n) (ltb e n) (le-ltb a n h))
 
-  past-column : (a e : ℕ) → n ≤ e → mapIn n starts places costs .cost a e ≡ 0
+  pub past-column : (a e : ℕ) → n ≤ e → mapIn n starts places costs .cost a e ≡ 0
   past-column a e h = ap (λ b. cond b (lookup places costs e (getD starts a 0) (getD starts (a + 1) 0 - getD starts a 0)) 0) (and-right (ltb a n) (ltb e n) (le-ltb e n h))
 
   both-all : (a e : ℕ) → mapIn n starts places costs .cost a e ≡ mapIn n starts places costs .cost e a
-  both-all a e = elim (cases-lt a n)
-      [ inl l ↦ elim (cases-lt e n) [ inl m ↦ A .both a e l m | inr m ↦ past-column a e m ∙ sym (past-row e a m) ]
-      | inr l ↦ past-row a e l ∙ sym (past-column e a l) ]
+  both-all a e = elim (cases-lt a n) [
+    | inl l ↦ elim (cases-lt e n) [ inl m ↦ A .both a e l m | inr m ↦ past-column a e m ∙ sym (past-row e a m) ]
+    | inr l ↦ past-row a e l ∙ sym (past-column e a l)
+  ]
 
   none-itself : (a : ℕ) → mapIn n starts places costs .cost a a ≡ 0
-  none-itself a = elim (cases-lt a n)
-      [ inl l ↦ elim (cases-lt 0 (mapIn n starts places costs .cost a a)) [ inl p ↦ (let r = road-arc a a l l p in absurd (A .apart a (r .0) l (r .1) (r .2) (r .3))) | inr p ↦ omega arith ]
-      | inr l ↦ past-row a a l ]
+  none-itself a = elim (cases-lt a n) [
+    | inl l ↦ elim (cases-lt 0 (mapIn n starts places costs .cost a a)) [ inl p ↦ (let r = road-arc a a l l p in absurd (A .apart a (r .0) l (r .1) (r .2) (r .3))) | inr p ↦ omega arith ]
+    | inr l ↦ past-row a a l
+  ]
 
   all-cheap : (a e : ℕ) → mapIn n starts places costs .cost a e ≤ 65535
-  all-cheap a e = elim (cases-lt 0 (mapIn n starts places costs .cost a e))
-      [ inl p ↦ elim (cases-lt a n)
-          [ inl l ↦ elim (cases-lt e n)
-              [ inl m ↦ (let r = road-arc a e l m p in omega (arith, r .4, A .cheap (r .0) (omega (arith, r .2, starts-most (a + 1) (omega arith)))))
-              | inr m ↦ omega (arith, past-column a e m) ]
-          | inr l ↦ omega (arith, past-row a e l) ]
-      | inr p ↦ omega arith ]
+  all-cheap a e = elim (cases-lt 0 (mapIn n starts places costs .cost a e)) [
+    | inl p ↦ elim (cases-lt a n) [
+      | inl l ↦ elim (cases-lt e n) [
+        | inl m ↦ (let r = road-arc a e l m p in omega (arith, r .4, A .cheap (r .0) (omega (arith, r .2, starts-most (a + 1) (omega arith)))))
+        | inr m ↦ omega (arith, past-column a e m)
+      ]
+      | inr l ↦ omega (arith, past-row a e l)
+    ]
+    | inr p ↦ omega arith
+  ]
 
   -- what every map in memory means
   pub meaning : Meaning (mapIn n starts places costs)

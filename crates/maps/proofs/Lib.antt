@@ -7,4 +7,5 @@ pub mod Counting
 pub mod Filled
 pub mod RoadArcs
 pub mod Laid
-pub mod Searches
+pub mod Halving
+pub mod Views

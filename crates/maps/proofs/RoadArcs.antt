@@ -36,9 +36,10 @@ no-road a = at-none a
 
 -- ---- the order of roads
 after-facts : (b r : Road) → comesAfter b r ≡ true → (b .from < r .from) ⊎ ((b .from ≡ r .from) × (b .to < r .to))
-after-facts b r h = elim (or-cases (ltb (b .from) (r .from)) (eqb (b .from) (r .from) && ltb (b .to) (r .to)) h)
-    [ inl p ↦ inl (ltb-true (b .from) (r .from) p)
-    | inr p ↦ (let q = and-parts (eqb (b .from) (r .from)) (ltb (b .to) (r .to)) p in inr (eqb-true (b .from) (r .from) (q .0), ltb-true (b .to) (r .to) (q .1))) ]
+after-facts b r h = elim (or-cases (ltb (b .from) (r .from)) (eqb (b .from) (r .from) && ltb (b .to) (r .to)) h) [
+  | inl p ↦ inl (ltb-true (b .from) (r .from) p)
+  | inr p ↦ (let q = and-parts (eqb (b .from) (r .from)) (ltb (b .to) (r .to)) p in inr (eqb-true (b .from) (r .from) (q .0), ltb-true (b .to) (r .to) (q .1)))
+]
 
 after-by-from : (b r : Road) → b .from < r .from → comesAfter b r ≡ true
 after-by-from b r h = or-left (ltb (b .from) (r .from)) (eqb (b .from) (r .from) && ltb (b .to) (r .to)) (lt-ltb (b .from) (r .from) h)
@@ -47,9 +48,10 @@ after-by-to : (b r : Road) → b .from ≡ r .from → b .to < r .to → comesAf
 after-by-to b r e h = or-right (ltb (b .from) (r .from)) (eqb (b .from) (r .from) && ltb (b .to) (r .to)) (and-from (eqb (b .from) (r .from)) (ltb (b .to) (r .to)) (eq-eqb (b .from) (r .from) e) (lt-ltb (b .to) (r .to) h))
 
 after-after : (b r s : Road) → comesAfter b r ≡ true → comesAfter r s ≡ true → comesAfter b s ≡ true
-after-after b r s p q = elim (after-facts b r p)
-    [ inl x ↦ elim (after-facts r s q) [ inl y ↦ after-by-from b s (omega arith) | inr y ↦ after-by-from b s (omega (arith, y .0)) ]
-    | inr x ↦ elim (after-facts r s q) [ inl y ↦ after-by-from b s (omega (arith, x .0)) | inr y ↦ after-by-to b s (x .0 ∙ y .0) (omega (arith, x .1, y .1)) ] ]
+after-after b r s p q = elim (after-facts b r p) [
+  | inl x ↦ elim (after-facts r s q) [ inl y ↦ after-by-from b s (omega arith) | inr y ↦ after-by-from b s (omega (arith, y .0)) ]
+  | inr x ↦ elim (after-facts r s q) [ inl y ↦ after-by-from b s (omega (arith, x .0)) | inr y ↦ after-by-to b s (x .0 ∙ y .0) (omega (arith, x .1, y .1)) ]
+]
 
 rises-after : (last : Option Road) (r s : Road) → rises last r ≡ true → comesAfter r s ≡ true → rises last s ≡ true
 rises-after None r s p q = refl
@@ -76,15 +78,21 @@ climbs n a m last [] low e = subst (Climbs n a m) (sym (no-road a)) tt
 climbs n a m last (r ∷ rs) low e =
     let v = e .0 in
     let w = low r (v .upward) (v .later) in
-    elim (cases-eq (r .from) a)
-      [ inl p ↦ subst (Climbs n a m) (sym (road-from a r rs p (λ q. omega (arith, v .upward))))
-          (record { inside = v .there; apart = λ q. omega (arith, v .upward); paid = v .costs }, w .0 p,
-           climbs n a (r .to + 1) (Some r) rs (λ s u h. (λ q. elim (after-facts r s h) [ inl x ↦ absurd (omega arith) | inr x ↦ omega (arith, x .1) ], λ q. elim (after-facts r s h) [ inl x ↦ absurd (omega arith) | inr x ↦ absurd (omega (arith, x .0)) ])) (e .1))
-      | inr p ↦ elim (cases-eq (r .to) a)
-          [ inl q ↦ subst (Climbs n a m) (sym (road-to a r rs p q))
-              (record { inside = omega (arith, v .there, v .upward); apart = p; paid = v .costs }, w .1 q,
-               climbs n a (r .from + 1) (Some r) rs (λ s u h. (λ t. omega (arith, v .upward), λ t. elim (after-facts r s h) [ inl x ↦ omega arith | inr x ↦ absurd (omega (arith, x .1)) ])) (e .1))
-          | inr q ↦ subst (Climbs n a m) (sym (road-past a r rs p q)) (climbs n a m (Some r) rs (λ s u h. low s u (rises-after last r s (v .later) h)) (e .1)) ] ]
+    elim (cases-eq (r .from) a) [
+      | inl p ↦ subst (Climbs n a m) (sym (road-from a r rs p (λ q. omega (arith, v .upward)))) (
+        record { inside = v .there; apart = λ q. omega (arith, v .upward); paid = v .costs },
+        w .0 p,
+        climbs n a (r .to + 1) (Some r) rs (λ s u h. (λ q. elim (after-facts r s h) [ inl x ↦ absurd (omega arith) | inr x ↦ omega (arith, x .1) ], λ q. elim (after-facts r s h) [ inl x ↦ absurd (omega arith) | inr x ↦ absurd (omega (arith, x .0)) ])) (e .1),
+      )
+      | inr p ↦ elim (cases-eq (r .to) a) [
+        | inl q ↦ subst (Climbs n a m) (sym (road-to a r rs p q)) (
+          record { inside = omega (arith, v .there, v .upward); apart = p; paid = v .costs },
+          w .1 q,
+          climbs n a (r .from + 1) (Some r) rs (λ s u h. (λ t. omega (arith, v .upward), λ t. elim (after-facts r s h) [ inl x ↦ omega arith | inr x ↦ absurd (omega (arith, x .1)) ])) (e .1),
+        )
+        | inr q ↦ subst (Climbs n a m) (sym (road-past a r rs p q)) (climbs n a m (Some r) rs (λ s u h. low s u (rises-after last r s (v .later) h)) (e .1))
+      ]
+    ]
 
 pub arcs-climb : (n a : ℕ) (rs : List Road) → Each (SoundRoad n) None rs → Climbs n a 0 (arcsAt a (arcsOf rs))
 arcs-climb n a rs e = climbs n a 0 None rs (λ s u h. (λ p. omega arith, λ p. omega arith)) e
@@ -131,14 +139,16 @@ cost-arcs n a e last [] h = ap (λ xs. costTo xs e) (no-road a)
 cost-arcs n a e last (r ∷ rs) h =
     let v = h .0 in
     let same = cost-arcs n a e (Some r) rs (h .1) in
-    elim (cases-eq (r .from) a)
-      [ inl p ↦ (let q : r .to ≡ a → ⊥ = λ q. omega (arith, v .upward) in
-                 ap (λ xs. costTo xs e) (road-from a r rs p q) ∙ ap (λ z. cond (eqb (r .to) e) (r .cost) z) same
-                 ∙ ap (λ b. cond b (r .cost) (costIn rs a e)) (sym (ends r a e true false (eq-eqb (r .from) a p) (ne-eqb (r .to) a q) ∙ first-way (eqb (r .to) e) (eqb (r .from) e))))
-      | inr p ↦ elim (cases-eq (r .to) a)
-          [ inl q ↦ ap (λ xs. costTo xs e) (road-to a r rs p q) ∙ ap (λ z. cond (eqb (r .from) e) (r .cost) z) same
-                    ∙ ap (λ b. cond b (r .cost) (costIn rs a e)) (sym (ends r a e false true (ne-eqb (r .from) a p) (eq-eqb (r .to) a q) ∙ other-way (eqb (r .to) e) (eqb (r .from) e)))
-          | inr q ↦ ap (λ xs. costTo xs e) (road-past a r rs p q) ∙ same ∙ ap (λ b. cond b (r .cost) (costIn rs a e)) (sym (joins-none r a e p q)) ] ]
+    elim (cases-eq (r .from) a) [
+      | inl p ↦ (let q : r .to ≡ a → ⊥ = λ q. omega (arith, v .upward) in
+          ap (λ xs. costTo xs e) (road-from a r rs p q) ∙ ap (λ z. cond (eqb (r .to) e) (r .cost) z) same
+          ∙ ap (λ b. cond b (r .cost) (costIn rs a e)) (sym (ends r a e true false (eq-eqb (r .from) a p) (ne-eqb (r .to) a q) ∙ first-way (eqb (r .to) e) (eqb (r .from) e))))
+      | inr p ↦ elim (cases-eq (r .to) a) [
+        | inl q ↦ ap (λ xs. costTo xs e) (road-to a r rs p q) ∙ ap (λ z. cond (eqb (r .from) e) (r .cost) z) same
+            ∙ ap (λ b. cond b (r .cost) (costIn rs a e)) (sym (ends r a e false true (ne-eqb (r .from) a p) (eq-eqb (r .to) a q) ∙ other-way (eqb (r .to) e) (eqb (r .from) e)))
+        | inr q ↦ ap (λ xs. costTo xs e) (road-past a r rs p q) ∙ same ∙ ap (λ b. cond b (r .cost) (costIn rs a e)) (sym (joins-none r a e p q))
+      ]
+    ]
 
 pub arcs-cost : (n a e : ℕ) (rs : List Road) → Each (SoundRoad n) None rs → costTo (arcsAt a (arcsOf rs)) e ≡ costIn rs a e
 arcs-cost n a e rs h = cost-arcs n a e None rs h

@@ -58,7 +58,7 @@ pub sound-road : (n : ℕ) (last : Option Road) (r : Road) → SoundRoad n last 
 sound-road n last r v =
     let u = v .upward in let t = v .there in let k = v .costs in
     pass _ Range _ (or-from _ _ (or-from _ _ (lt-leb n (r .from) (omega arith)) (lt-leb n (r .to) (omega arith))) (lt-leb (r .to) (r .from) (omega arith)))
-      (pass _ Order _ (not-from-true _ (v .later)) (pass _ Cost None (ne-eqb (r .cost) 0 (λ e. omega arith)) refl))
+    (pass _ Order _ (not-from-true _ (v .later)) (pass _ Cost None (ne-eqb (r .cost) 0 (λ e. omega arith)) refl))
 
 roads-each : (n : ℕ) (last : Option Road) (rs : List Road) → roadsFault n last rs ≡ None → Each (SoundRoad n) last rs
 unfolding roadsFault

@@ -23,8 +23,9 @@ lookup places costs e k (suc m) = cond (eqb (getD places k 0) e) (getD costs k 0
 
 abbrev pub mapIn : ℕ → List ℕ → List ℕ → List ℕ → Map
 mapIn n starts places costs = record {
-    n = n;
-    cost = λ a e. cond (ltb a n && ltb e n) (lookup places costs e (getD starts a 0) (getD starts (a + 1) 0 - getD starts a 0)) 0 }
+  n = n;
+  cost = λ a e. cond (ltb a n && ltb e n) (lookup places costs e (getD starts a 0) (getD starts (a + 1) 0 - getD starts a 0)) 0;
+}
 
 -- k is the place of an arc of a, and if another arc of a comes after it, that one leads to a higher place
 abbrev pub arcFits : List ℕ → List ℕ → ℕ → ℕ → Bool

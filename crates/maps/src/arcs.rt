@@ -28,10 +28,16 @@ impl<'a> RoadMap<'a> {
         ensures costs { λ r. ⌜ now (r .costs) ≡ arcPart (now (self .entry) .n) (now (now (self .entry) .starts)) (now (now (self .entry) .costs)) a ⌝ }
     {
         if a >= self.n {
-            return ArcsFrom { places: &[], costs: &[] };
+            return ArcsFrom {
+                places: &[],
+                costs: &[],
+            };
         }
         let from = self.starts[a] as usize;
         let to = self.starts[a + 1] as usize;
-        ArcsFrom { places: part(self.places, from, to), costs: part(self.costs, from, to) }
+        ArcsFrom {
+            places: part(self.places, from, to),
+            costs: part(self.costs, from, to),
+        }
     }
 }

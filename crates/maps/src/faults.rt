@@ -2,8 +2,8 @@
 ghost use mathlib.Core.Path.{_≡_};
 ghost use Rattle.maps.specs.Faults.{numberOf};
 ghost use Rattle.maps.specs.declared.kinds.Fault.the-variants.{Memory};
-use std::alloc::AllocError;
 use super::kinds::Fault;
+use std::alloc::AllocError;
 
 impl Fault {
     /// The number by which the fault is told; 0 for want of memory, which is no fault of the input.

@@ -5,7 +5,6 @@ ghost use Rattle.std.specs.Of.Vec.{vec-items};
 ghost use Rattle.maps.specs.Arcs.{mapIn, Meaning};
 ghost use Rattle.maps.specs.Laid.{Laid};
 ghost use Rattle.maps.specs.Roads.{costIn};
-use std::alloc::Global;
 use super::buf::RoadMapBuf;
 use super::faults::FaultFromAlloc;
 use super::kinds::Fault;
@@ -15,6 +14,7 @@ use super::laying::place_arcs;
 use super::laying::sum_before;
 use super::map::RoadMap;
 use super::roads::fault_of_map;
+use std::alloc::Global;
 
 impl RoadMapBuf {
     /// The map of `n` places with these roads, or the first fault that they have. It takes time for the places and the roads.
@@ -30,7 +30,13 @@ impl RoadMapBuf {
         let mut places = vec![in heap; 0u16; arcs]?;
         let mut costs = vec![in heap; 0u16; arcs]?;
         place_arcs(&roads, &mut starts, &mut places, &mut costs);
-        Ok(RoadMapBuf { n, roads, starts, places, costs })
+        Ok(RoadMapBuf {
+            n,
+            roads,
+            starts,
+            places,
+            costs,
+        })
     }
 
     /// How many places there are.
@@ -56,6 +62,11 @@ impl RoadMapBuf {
         ensures same { λ r. ⌜ ((a e : ℕ) → mapIn (r .n) (now (r .starts)) (now (r .places)) (now (r .costs)) .cost a e ≡ costIn (vec-items (now (self .entry) .roads)) a e) ⌝ }
         ensures means { λ r. ⌜ Meaning (mapIn (r .n) (now (r .starts)) (now (r .places)) (now (r .costs))) ⌝ }
     {
-        RoadMap { n: self.n as usize, starts: &self.starts, places: &self.places, costs: &self.costs }
+        RoadMap {
+            n: self.n as usize,
+            starts: &self.starts,
+            places: &self.places,
+            costs: &self.costs,
+        }
     }
 }

@@ -12,7 +12,8 @@ impl Road {
     {
         match last {
             None => true,
-            Some(before) => before.from < self.from || (before.from == self.from && before.to < self.to),
+            Some(before) => before.from < self.from
+                || (before.from == self.from && before.to < self.to),
         }
     }
 

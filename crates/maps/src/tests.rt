@@ -39,8 +39,17 @@ fn two_places(rt: LibcRuntime) -> Result<(), Fail> {
 
 #[test]
 fn row(rt: LibcRuntime) -> Result<(), Fail> {
-    let map = lay(rt.alloc(), 4, &[road(0, 1, 3), road(1, 2, 5), road(2, 3, 2)])?;
-    check_arcs(map.map(), &[0, 1, 3, 5, 6], &[1, 0, 2, 1, 3, 2], &[3, 3, 5, 5, 2, 2])?;
+    let map = lay(
+        rt.alloc(),
+        4,
+        &[road(0, 1, 3), road(1, 2, 5), road(2, 3, 2)],
+    )?;
+    check_arcs(
+        map.map(),
+        &[0, 1, 3, 5, 6],
+        &[1, 0, 2, 1, 3, 2],
+        &[3, 3, 5, 5, 2, 2],
+    )?;
     check_eq(map.map().cost(2, 1), 5)?;
     check_eq(map.map().cost(0, 2), 0)?;
     check_eq(map.map().cost(3, 4), 0)
@@ -48,15 +57,33 @@ fn row(rt: LibcRuntime) -> Result<(), Fail> {
 
 #[test]
 fn ring(rt: LibcRuntime) -> Result<(), Fail> {
-    let map = lay(rt.alloc(), 4, &[road(0, 1, 1), road(0, 3, 7), road(1, 2, 2), road(2, 3, 3)])?;
-    check_arcs(map.map(), &[0, 2, 4, 6, 8], &[1, 3, 0, 2, 1, 3, 0, 2], &[1, 7, 1, 2, 2, 3, 7, 3])?;
+    let map = lay(
+        rt.alloc(),
+        4,
+        &[road(0, 1, 1), road(0, 3, 7), road(1, 2, 2), road(2, 3, 3)],
+    )?;
+    check_arcs(
+        map.map(),
+        &[0, 2, 4, 6, 8],
+        &[1, 3, 0, 2, 1, 3, 0, 2],
+        &[1, 7, 1, 2, 2, 3, 7, 3],
+    )?;
     check_eq(map.map().cost(3, 0), 7)
 }
 
 #[test]
 fn star(rt: LibcRuntime) -> Result<(), Fail> {
-    let map = lay(rt.alloc(), 4, &[road(0, 2, 4), road(1, 2, 5), road(2, 3, 6)])?;
-    check_arcs(map.map(), &[0, 1, 2, 5, 6], &[2, 2, 0, 1, 3, 2], &[4, 5, 4, 5, 6, 6])?;
+    let map = lay(
+        rt.alloc(),
+        4,
+        &[road(0, 2, 4), road(1, 2, 5), road(2, 3, 6)],
+    )?;
+    check_arcs(
+        map.map(),
+        &[0, 1, 2, 5, 6],
+        &[2, 2, 0, 1, 3, 2],
+        &[4, 5, 4, 5, 6, 6],
+    )?;
     check_eq(map.len(), 4)?;
     check_eq(map.roads().len(), 3)
 }
@@ -68,7 +95,13 @@ fn refused(rt: LibcRuntime) -> Result<(), Fail> {
     check_eq(lay(heap, 513, &[]).err(), Some(Fault::Range))?;
     check_eq(lay(heap, 3, &[road(0, 3, 1)]).err(), Some(Fault::Range))?;
     check_eq(lay(heap, 3, &[road(1, 0, 1)]).err(), Some(Fault::Range))?;
-    check_eq(lay(heap, 3, &[road(0, 2, 1), road(0, 1, 1)]).err(), Some(Fault::Order))?;
-    check_eq(lay(heap, 3, &[road(0, 1, 1), road(0, 1, 1)]).err(), Some(Fault::Order))?;
+    check_eq(
+        lay(heap, 3, &[road(0, 2, 1), road(0, 1, 1)]).err(),
+        Some(Fault::Order),
+    )?;
+    check_eq(
+        lay(heap, 3, &[road(0, 1, 1), road(0, 1, 1)]).err(),
+        Some(Fault::Order),
+    )?;
     check_eq(lay(heap, 3, &[road(0, 1, 0)]).err(), Some(Fault::Cost))
 }

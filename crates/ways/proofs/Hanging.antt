@@ -32,6 +32,7 @@ pub at-some : (x : Far) (c : ℕ) → x ≡ At c → some x ≡ true
 at-some x c e = ap some e
 
 pub hanging-together : Hanging-together
-hanging-together z both pos =
-    ((λ h. joined-by-one z 0 both pos (λ a l. some-at (far z 0 a) (all-at (z .n) (λ a. some (far z 0 a)) h a l))),
-     (λ j. all-from (z .n) (λ a. some (far z 0 a)) (λ a l. let r = j 0 a pos l in at-some (far z 0 a) (r .0) (r .1))))
+hanging-together z both pos = (
+  (λ h. joined-by-one z 0 both pos (λ a l. some-at (far z 0 a) (all-at (z .n) (λ a. some (far z 0 a)) h a l))),
+  (λ j. all-from (z .n) (λ a. some (far z 0 a)) (λ a l. let r = j 0 a pos l in at-some (far z 0 a) (r .0) (r .1))),
+)

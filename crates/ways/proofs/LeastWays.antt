@@ -10,10 +10,11 @@ use Rattle.ways.proofs.Certified.{certified}
 
 pub least-ways : Least-ways
 least-ways z d a dn an = record {
-    some-way = λ c h.
-        let r = route-some z d (far z d) (certified z d dn) (rank (far z d) (z .n) c) a c dn an h (omega arith) in
-        (r .0, omega (arith, r .1, rank-short (far z d) (z .n) c a an h), r .2);
-    no-less = λ c k r. route-most z d (far z d) (certified z d dn) a c k r }
+  some-way = λ c h.
+      let r = route-some z d (far z d) (certified z d dn) (rank (far z d) (z .n) c) a c dn an h (omega arith) in
+      (r .0, omega (arith, r .1, rank-short (far z d) (z .n) c a an h), r .2);
+  no-less = λ c k r. route-most z d (far z d) (certified z d dn) a c k r;
+}
 
 pub roads-suffice : Roads-suffice
 roads-suffice z d a k dn an h = within-is z d (far z d) (certified z d dn) k a h an

@@ -13,12 +13,13 @@ use Rattle.ways.proofs.Certified.{certified}
 module _ (z : Map) where
   over : (b p a e c q : ℕ) → p < b → a < z .n → e < z .n → c < z .n → far z e a ≡ At p → far z c e ≡ At q → AtMost (far z c a) (p + q)
   over zero p a e c q h l m n x y = absurd (omega arith)
-  over (suc b) p a e c q h l m n x y = elim (cases-eq a e)
-      [ inl t ↦ (q, ap (far z c) t ∙ y, omega arith)
-      | inr t ↦ (let r = certified z e m .step a p l t x in
-                 let i = over b (r .1) (r .0) e c q (omega (arith, r .3, r .5)) (r .2) m n (r .4) y in
-                 let u = certified z c n .less a (r .0) (i .0) l (r .2) (r .3) (i .1) in
-                 (u .0, u .1, omega (arith, u .2, i .2, r .5))) ]
+  over (suc b) p a e c q h l m n x y = elim (cases-eq a e) [
+    | inl t ↦ (q, ap (far z c) t ∙ y, omega arith)
+    | inr t ↦ (let r = certified z e m .step a p l t x in
+        let i = over b (r .1) (r .0) e c q (omega (arith, r .3, r .5)) (r .2) m n (r .4) y in
+        let u = certified z c n .less a (r .0) (i .0) l (r .2) (r .3) (i .1) in
+        (u .0, u .1, omega (arith, u .2, i .2, r .5)))
+  ]
 
   pub triangle : (a e c p q : ℕ) → a < z .n → e < z .n → c < z .n → far z e a ≡ At p → far z c e ≡ At q → AtMost (far z c a) (p + q)
   triangle a e c p q l m n x y = over (suc p) p a e c q (omega arith) l m n x y
@@ -26,14 +27,15 @@ module _ (z : Map) where
   module _ (both : BothWays z) where
     back : (b p a e : ℕ) → p < b → a < z .n → e < z .n → far z e a ≡ At p → AtMost (far z a e) p
     back zero p a e h l m x = absurd (omega arith)
-    back (suc b) p a e h l m x = elim (cases-eq a e)
-        [ inl t ↦ (0, ap (far z a) (sym t) ∙ certified z a l .here, omega arith)
-        | inr t ↦ (let r = certified z e m .step a p l t x in
-                   let i = back b (r .1) (r .0) e (omega (arith, r .3, r .5)) (r .2) m (r .4) in
-                   let o = both a (r .0) in
-                   let u = certified z a l .less (r .0) a 0 (r .2) l (omega (arith, o, r .3)) (certified z a l .here) in
-                   let v = triangle e (r .0) a (i .0) (u .0) m (r .2) l (i .1) (u .1) in
-                   (v .0, v .1, omega (arith, v .2, i .2, u .2, o, r .5))) ]
+    back (suc b) p a e h l m x = elim (cases-eq a e) [
+      | inl t ↦ (0, ap (far z a) (sym t) ∙ certified z a l .here, omega arith)
+      | inr t ↦ (let r = certified z e m .step a p l t x in
+          let i = back b (r .1) (r .0) e (omega (arith, r .3, r .5)) (r .2) m (r .4) in
+          let o = both a (r .0) in
+          let u = certified z a l .less (r .0) a 0 (r .2) l (omega (arith, o, r .3)) (certified z a l .here) in
+          let v = triangle e (r .0) a (i .0) (u .0) m (r .2) l (i .1) (u .1) in
+          (v .0, v .1, omega (arith, v .2, i .2, u .2, o, r .5)))
+    ]
 
     back-at : (x y : Far) (a e : ℕ) → a < z .n → e < z .n → far z a e ≡ x → far z e a ≡ y → x ≡ y
     back-at Never Never a e l m p q = refl

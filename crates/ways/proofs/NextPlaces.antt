@@ -36,9 +36,10 @@ closer-on z d a e c =
 pub first-at : (z : Map) (d a r : ℕ) → r < z .n → onWay z d a r ≡ true → ((i : ℕ) → i < r → onWay z d a i ≡ false) → (k e : ℕ) → e + k ≡ z .n → e ≤ r → firstOf z d a e k ≡ To r
 unfolding firstOf
 first-at z d a r l h b zero e s m = absurd (omega arith)
-first-at z d a r l h b (suc k) e s m = elim (cases-eq e r)
-    [ inl p ↦ ap (λ t. cond t (To e) (firstOf z d a (e + 1) k)) (ap (onWay z d a) p ∙ h) ∙ ap To p
-    | inr p ↦ ap (λ t. cond t (To e) (firstOf z d a (e + 1) k)) (b e (omega arith)) ∙ first-at z d a r l h b k (e + 1) (omega arith) (omega arith) ]
+first-at z d a r l h b (suc k) e s m = elim (cases-eq e r) [
+  | inl p ↦ ap (λ t. cond t (To e) (firstOf z d a (e + 1) k)) (ap (onWay z d a) p ∙ h) ∙ ap To p
+  | inr p ↦ ap (λ t. cond t (To e) (firstOf z d a (e + 1) k)) (b e (omega arith)) ∙ first-at z d a r l h b k (e + 1) (omega arith) (omega arith)
+]
 
 pub first-none : (z : Map) (d a : ℕ) → ((i : ℕ) → i < z .n → onWay z d a i ≡ false) → (k e : ℕ) → e + k ≡ z .n → firstOf z d a e k ≡ Nowhere
 unfolding firstOf
@@ -66,9 +67,10 @@ pick-false false x y h = refl
 first-is : (z : Map) (d a k e : ℕ) → First z d a e k (firstOf z d a e k)
 unfolding firstOf First
 first-is z d a zero e = λ i l m. absurd (omega arith)
-first-is z d a (suc k) e = elim (cases-bool (onWay z d a e))
-    [ inl t ↦ subst (First z d a e (suc k)) (pick-true (onWay z d a e) (To e) (firstOf z d a (e + 1) k) t) (omega arith, omega arith, t, λ i l m. absurd (omega arith))
-    | inr t ↦ subst (First z d a e (suc k)) (pick-false (onWay z d a e) (To e) (firstOf z d a (e + 1) k) t) (first-more z d a e k (firstOf z d a (e + 1) k) t (first-is z d a k (e + 1))) ]
+first-is z d a (suc k) e = elim (cases-bool (onWay z d a e)) [
+  | inl t ↦ subst (First z d a e (suc k)) (pick-true (onWay z d a e) (To e) (firstOf z d a (e + 1) k) t) (omega arith, omega arith, t, λ i l m. absurd (omega arith))
+  | inr t ↦ subst (First z d a e (suc k)) (pick-false (onWay z d a e) (To e) (firstOf z d a (e + 1) k) t) (first-more z d a e k (firstOf z d a (e + 1) k) t (first-is z d a k (e + 1)))
+]
 
 pub hop-here : (z : Map) (d a : ℕ) → a ≡ d → hop z d a ≡ Nowhere
 hop-here z d a e = ap (λ t. cond t Nowhere (firstOf z d a 0 (z .n))) (eq-eqb a d e)
@@ -99,23 +101,26 @@ module _ (z : Map) (d a : ℕ) (dn : d < z .n) (an : a < z .n) where
   first = first-is z d a (z .n) 0
 
   hop-found : (w : ℕ) → hop z d a ≡ To w → (w < z .n) × (onWay z d a w ≡ true) × ((i : ℕ) → i < w → onWay z d a i ≡ false)
-  hop-found w h = elim (cases-eq a d)
-      [ inl e ↦ (let g : Nowhere ≡ To w = sym (hop-here z d a e) ∙ h in let k : _≡_ {A = ℕ} 0 1 = cc in absurd (omega arith))
-      | inr e ↦ found z d a (firstOf z d a 0 (z .n)) first w (sym (hop-there z d a e) ∙ h) ]
+  hop-found w h = elim (cases-eq a d) [
+    | inl e ↦ (let g : Nowhere ≡ To w = sym (hop-here z d a e) ∙ h in let k : _≡_ {A = ℕ} 0 1 = cc in absurd (omega arith))
+    | inr e ↦ found z d a (firstOf z d a 0 (z .n)) first w (sym (hop-there z d a e) ∙ h)
+  ]
 
   pub next-place : NextPlace z d a
   next-place = record {
-      closer = λ w h. let r = hop-found w h in on-closer z d a w (r .0) (r .1);
-      lowest-such = λ w x h l c. both-ways (onWay z d a x) (hop-found w h .2 x l) (closer-on z d a x c);
-      there = λ c h ne.
-          let r = certified z d dn .step a c an ne h in
-          let t = closer-on z d a (r .0) (record { there = r .2; neighbour = r .3; rest = r .1; rest-is = r .4; whole-is = h ∙ ap At (r .5) }) in
-          let s = some-found z d a (firstOf z d a 0 (z .n)) first (r .0) (r .2) t in
-          (s .0, hop-there z d a ne ∙ s .1);
-      nowhere-at = hop-here z d a;
-      nowhere-cut = λ h. elim (cases-eq a d)
-          [ inl e ↦ hop-here z d a e
-          | inr e ↦ hop-there z d a e ∙ none-found z d a (firstOf z d a 0 (z .n)) first (λ x l t. never-at (z .cost a x + on-closer z d a x l t .rest) (sym h ∙ on-closer z d a x l t .whole-is)) ] }
+    closer = λ w h. let r = hop-found w h in on-closer z d a w (r .0) (r .1);
+    lowest-such = λ w x h l c. both-ways (onWay z d a x) (hop-found w h .2 x l) (closer-on z d a x c);
+    there = λ c h ne.
+        let r = certified z d dn .step a c an ne h in
+        let t = closer-on z d a (r .0) (record { there = r .2; neighbour = r .3; rest = r .1; rest-is = r .4; whole-is = h ∙ ap At (r .5) }) in
+        let s = some-found z d a (firstOf z d a 0 (z .n)) first (r .0) (r .2) t in
+        (s .0, hop-there z d a ne ∙ s .1);
+    nowhere-at = hop-here z d a;
+    nowhere-cut = λ h. elim (cases-eq a d) [
+      | inl e ↦ hop-here z d a e
+      | inr e ↦ hop-there z d a e ∙ none-found z d a (firstOf z d a 0 (z .n)) first (λ x l t. never-at (z .cost a x + on-closer z d a x l t .rest) (sym h ∙ on-closer z d a x l t .whole-is))
+    ];
+  }
 
 pub next-places : Next-places
 next-places z d a dn an = next-place z d a dn an

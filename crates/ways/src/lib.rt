@@ -2,13 +2,6 @@
 ghost use mathlib.Core.Path.{_≡_};
 ghost use Rattle.ways.specs.Laws.{Least-ways, Roads-suffice, Distances-fixed, Symmetric, Triangle, Next-places, Joined-by-one, Hanging-together};
 
-/// The most places of a map.
-pub fn most_places() -> u16
-    ensures { λ r. ⌜ r ≡ 512 ⌝ }
-{
-    512
-}
-
 /// The laws of distances; how many there are.
 pub fn distance_laws() -> u8
     ensures count { λ r. ⌜ r ≡ 5 ⌝ }

@@ -20,7 +20,8 @@ loop-d-again c =
     let d = c .loop-d .d in
     let h = row-fits d n (c .loop-d-test .taken) in
     let ld : length (c .work-out .last .dist) ≡ n = c .work-out .kept .dist ∙ length-between (c .loop-d .dist) (d * n) (d * n + n) (omega (arith, h, c .loop-d .inv .0)) ∙ omega arith in
-    let ln : length (c .work-out .last .next) ≡ n = c .work-out .kept .next ∙ length-between (c .loop-d .next) (d * n) (d * n + n) (omega (arith, h, c .loop-d .inv .1)) ∙ omega arith in
-    (mid-long d n (c .loop-d .dist) (c .work-out .last .dist) (c .loop-d-test .taken) (c .loop-d .inv .0) ld,
-     mid-long d n (c .loop-d .next) (c .work-out .last .next) (c .loop-d-test .taken) (c .loop-d .inv .1) ln,
-     before-more (chart (c .args .map .now)) n d ((d * n + n) - d * n) ((d * n + n) - d * n) (c .loop-d .dist) (c .loop-d .next) (c .work-out .last .dist) (c .work-out .last .next) refl (c .loop-d-test .taken) (c .loop-d .inv .0) (c .loop-d .inv .1) ld ln (c .loop-d .inv .2) (c .work-out .ensures .far) (c .work-out .ensures .hop))
+    let ln : length (c .work-out .last .next) ≡ n = c .work-out .kept .next ∙ length-between (c .loop-d .next) (d * n) (d * n + n) (omega (arith, h, c .loop-d .inv .1)) ∙ omega arith in (
+      mid-long d n (c .loop-d .dist) (c .work-out .last .dist) (c .loop-d-test .taken) (c .loop-d .inv .0) ld,
+      mid-long d n (c .loop-d .next) (c .work-out .last .next) (c .loop-d-test .taken) (c .loop-d .inv .1) ln,
+      before-more (chart (c .args .map .now)) n d ((d * n + n) - d * n) ((d * n + n) - d * n) (c .loop-d .dist) (c .loop-d .next) (c .work-out .last .dist) (c .work-out .last .next) refl (c .loop-d-test .taken) (c .loop-d .inv .0) (c .loop-d .inv .1) ld ln (c .loop-d .inv .2) (c .work-out .ensures .far) (c .work-out .ensures .hop),
+    )

@@ -28,7 +28,8 @@ count-arcs-requires c κs =
     record {
       none = subst (Counted []) (sym (c .deref-mut .ensures .value ∙ c .in-Continue-starts .ensures tt .exact (λ y e. e))) (counted-start (n + 1));
       inside = subst (λ rs. Inside rs (now (c .deref-mut .result))) (sym e) (sound-inside n roads (now (c .deref-mut .result)) v long);
-      few = omega (arith, ap length e, v .short) }
+      few = omega (arith, ap length e, v .short);
+    }
 
 pub sum-before-arcs-requires : need.sum-before-arcs-requires
 sum-before-arcs-requires c κs =
@@ -39,8 +40,12 @@ sum-before-arcs-requires c κs =
     let made : c .in-Continue-starts .starts .len ≡ n + 1 = c .in-Continue-starts .ensures tt .made .1 in
     let long : length (c .count-arcs .last .starts) ≡ n + 1 = c .count-arcs .kept .starts ∙ c .deref-mut .ensures .len ∙ made in
     let whole : now (c .deref-mut-2 .result) ≡ c .count-arcs .last .starts = c .deref-mut-2 .ensures .value ∙ take-at (c .count-arcs .last .starts) _ (c .in-Continue-starts .starts .len) (long ∙ sym made) in
-    omega (arith, ap sum whole, sums-fit (arcsOf (now (c .deref-2 .result))) (c .count-arcs .last .starts) (c .count-arcs .ensures) n long (v .few)
-        (omega (arith, arcs-length (now (c .deref-2 .result)), ap length (c .deref-2 .ensures .value), v .short)))
+    omega (
+      arith,
+      ap sum whole,
+      sums-fit (arcsOf (now (c .deref-2 .result))) (c .count-arcs .last .starts) (c .count-arcs .ensures) n long (v .few)
+          (omega (arith, arcs-length (now (c .deref-2 .result)), ap length (c .deref-2 .ensures .value), v .short)),
+    )
 
 pub place-arcs-requires : need.place-arcs-requires
 place-arcs-requires c κs =
@@ -60,12 +65,17 @@ place-arcs-requires c κs =
     let room : length places ≡ sum counts = c .deref-mut-4 .ensures .len ∙ c .in-Continue-places .ensures tt .made .1 ∙ c .sum-before-arcs .ensures .all ∙ ap sum whole in
     let room-2 : length costs ≡ sum counts = c .deref-mut-5 .ensures .len ∙ c .in-Continue-costs .ensures tt .made .1 ∙ c .sum-before-arcs .ensures .all ∙ ap sum whole in
     let base : Filling (arcsOf (now (c .deref-2 .result))) [] starts places costs = filling-start (arcsOf (now (c .deref-2 .result))) counts starts places costs (c .count-arcs .ensures) (omega arith) (long-2 ∙ sym long)
-        (λ k h. c .sum-before-arcs .ensures .each k (omega (arith, ap length whole)) ∙ ap (λ z. sum (take k z)) whole) room (room-2 ∙ sym room) in
+    (λ k h. c .sum-before-arcs .ensures .each k (omega (arith, ap length whole)) ∙ ap (λ z. sum (take k z)) whole) room (room-2 ∙ sym room) in
     record {
       none = subst (λ z. Filling (arcsOf (now (c .deref-3 .result))) [] z places costs) (sym whole-2) (subst (λ rs. Filling (arcsOf rs) [] starts places costs) (c .deref-2 .ensures .value ∙ sym (c .deref-3 .ensures .value)) base);
       inside = subst (λ rs. Inside rs (now (c .deref-mut-3 .result))) (sym (c .deref-3 .ensures .value)) (sound-inside n roads (now (c .deref-mut-3 .result)) v (ap length whole-2 ∙ long-2));
-      fits = omega (arith, room, sums-fit (arcsOf (now (c .deref-2 .result))) counts (c .count-arcs .ensures) n long (v .few)
-          (omega (arith, arcs-length (now (c .deref-2 .result)), ap length (c .deref-2 .ensures .value), v .short))) }
+      fits = omega (
+        arith,
+        room,
+        sums-fit (arcsOf (now (c .deref-2 .result))) counts (c .count-arcs .ensures) n long (v .few)
+            (omega (arith, arcs-length (now (c .deref-2 .result)), ap length (c .deref-2 .ensures .value), v .short)),
+      );
+    }
 
 pub ghost-result : need.ghost-result
 ghost-result c =
@@ -92,7 +102,7 @@ ghost-result c =
     -- what lies behind the elements in memory
     let past : List ℕ = drop (length starts) (take m (sums ++ drop (length sums) (take m (counts ++ drop (length counts) (c .in-Continue-starts .starts .items))))) in
     let r = laid n roads none starts places costs _ _ _ (take-at starts past m (long-3 ∙ sym made))
-        (take-at places (drop (length places) (c .in-Continue-places .places .items)) (c .in-Continue-places .places .len) long-p)
-        (take-at costs (drop (length costs) (c .in-Continue-costs .costs .items)) (c .in-Continue-costs .costs .len) long-c)
-        all long-3 room (c .place-arcs .ensures .cheap) in
+    (take-at places (drop (length places) (c .in-Continue-places .places .items)) (c .in-Continue-places .places .len) long-p)
+    (take-at costs (drop (length costs) (c .in-Continue-costs .costs .items)) (c .in-Continue-costs .costs .len) long-c)
+    all long-3 room (c .place-arcs .ensures .cheap) in
     (r .0, (r .1, (r .2, tt)))

@@ -1,48 +1,61 @@
-use borrow.Author.Needs.{needs}
+use mathlib.Core.Path.{sym}
+use Prim.Native.Nat.{_+_, _-_, _/_}
 use native.Mathlib.Omega.{arith}
-use Prim.Native.Nat.{ℕ, _+_, _<_, _≤_}
-use lib.ListN.{length, getD}
-use Rattle.std.specs.shelf.Sorted.{unsigned}
-use Rattle.maps.proofs.SoundArcs.{arcs-of}
-use Rattle.maps.proofs.Costs.{starts-most}
-use Rattle.maps.proofs.Searches.{search-inside, search-found, search-missed}
+use Rattle.maps.proofs.Costs.{past-row, past-column}
+use Rattle.maps.proofs.Halving.{halving-start, halving-inside, halving-up, halving-down, halving-found, halving-end}
+use Rattle.maps.proofs.Views.{view-arcs}
 use Rattle.maps.proofs.map.RoadMap.cost.Needs as need
+use Rattle.maps.proofs.map.RoadMap.cost.Needs.{then-a-self·by·then-a-self, then-a-self·by·else-a-self·then-e-self}
 
-pub part-binary-search-count : need.part-binary-search-count
-part-binary-search-count c =
+pub returns-then-a-self : need.returns-then-a-self
+returns-then-a-self c =
     let m = c .args .self .now in
-    let A = arcs-of (m .n) (m .starts .now) (m .places .now) (m .costs .now) (m .sound) in
-    A .rises (c .args .a) (omega arith)
+    elim (c .then-a-self .came) [
+      | then-a-self·by·then-a-self w ↦ sym (past-row (m .n) (m .starts .now) (m .places .now) (m .costs .now) (view-arcs m) (c .args .a) (c .args .e) (w .if-a-self .taken))
+      | then-a-self·by·else-a-self·then-e-self w ↦ sym (past-column (m .n) (m .starts .now) (m .places .now) (m .costs .now) (view-arcs m) (c .args .a) (c .args .e) (w .if-e-self .taken))
+    ]
 
-pub part-binary-search-start : need.part-binary-search-start
-part-binary-search-start c =
-    let m = c .args .self .now in
-    let A = arcs-of (m .n) (m .starts .now) (m .places .now) (m .costs .now) (m .sound) in
-    let h = A .rises (c .args .a) (omega arith) in
-    search needs
+pub index-self-a : need.index-self-a
+index-self-a c = let l = view-arcs (c .args .self .now) .long in omega arith
 
-pub part-binary-search-end : need.part-binary-search-end
-part-binary-search-end c =
-    let m = c .args .self .now in
-    let A = arcs-of (m .n) (m .starts .now) (m .places .now) (m .costs .now) (m .sound) in
-    let h = A .rises (c .args .a) (omega arith) in
-    let k = starts-most (m .n) (m .starts .now) (m .places .now) (m .costs .now) A (c .args .a + 1) (omega arith) in
-    search needs
+pub index-self-a-2 : need.index-self-a-2
+index-self-a-2 c = let l = view-arcs (c .args .self .now) .long in omega arith
 
-pub index-self-from : need.index-self-from
-index-self-from c =
-    let m = c .args .self .now in
-    let A = arcs-of (m .n) (m .starts .now) (m .places .now) (m .costs .now) (m .sound) in
-    search-inside (m .n) (m .starts .now) (m .places .now) (m .costs .now) A (c .args .a) (omega arith) (c .in-Ok .k) (c .in-Ok .ensures tt .bound)
+pub loop-low-holds : need.loop-low-holds
+loop-low-holds c = let m = c .args .self .now in halving-start (m .n) (m .starts .now) (m .places .now) (m .costs .now) (view-arcs m) (c .args .a) (c .args .e) (omega arith)
 
-pub returns-in-Ok : need.returns-in-Ok
-returns-in-Ok c =
+pub index-self-middle : need.index-self-middle
+index-self-middle c =
     let m = c .args .self .now in
-    let A = arcs-of (m .n) (m .starts .now) (m .places .now) (m .costs .now) (m .sound) in
-    search-found (m .n) (m .starts .now) (m .places .now) (m .costs .now) A (c .args .a) (omega arith) (c .args .e) (c .in-Ok .k) (c .in-Ok .ensures tt .located unsigned)
+    let k = c .loop-low .low + (c .loop-low .high - c .loop-low .low) / 2 in
+    halving-inside (m .n) (m .starts .now) (m .places .now) (m .costs .now) (view-arcs m) (c .args .a) (c .args .e) (omega arith) (c .loop-low .low) (c .loop-low .high) (c .loop-low .inv) k (omega arith)
 
-pub returns-in-Err : need.returns-in-Err
-returns-in-Err c =
+pub index-self-middle-then-place-e : need.index-self-middle-then-place-e
+index-self-middle-then-place-e c =
     let m = c .args .self .now in
-    let A = arcs-of (m .n) (m .starts .now) (m .places .now) (m .costs .now) (m .sound) in
-    search-missed (m .n) (m .starts .now) (m .places .now) (m .costs .now) A (c .args .a) (omega arith) (c .args .e) (c .in-Err .field-0) (omega arith) (c .in-Err .ensures tt .located unsigned)
+    let k = c .loop-low .low + (c .loop-low .high - c .loop-low .low) / 2 in
+    omega (arith, halving-inside (m .n) (m .starts .now) (m .places .now) (m .costs .now) (view-arcs m) (c .args .a) (c .args .e) (omega arith) (c .loop-low .low) (c .loop-low .high) (c .loop-low .inv) k (omega arith), view-arcs m .level)
+
+pub returns-then-place-e : need.returns-then-place-e
+returns-then-place-e c =
+    let m = c .args .self .now in
+    let k = c .loop-low .low + (c .loop-low .high - c .loop-low .low) / 2 in
+    halving-found (m .n) (m .starts .now) (m .places .now) (m .costs .now) (view-arcs m) (c .args .a) (c .args .e) (omega arith) (c .loop-low .low) (c .loop-low .high) (c .loop-low .inv) k (omega arith) (omega arith) (c .if-place-e .taken)
+
+pub loop-low-again-then-place-e-2 : need.loop-low-again-then-place-e-2
+loop-low-again-then-place-e-2 c =
+    let m = c .args .self .now in
+    let k = c .loop-low .low + (c .loop-low .high - c .loop-low .low) / 2 in
+    halving-up (m .n) (m .starts .now) (m .places .now) (m .costs .now) (view-arcs m) (c .args .a) (c .args .e) (omega arith) (c .loop-low .low) (c .loop-low .high) (c .loop-low .inv) k (omega arith) (omega arith) (c .if-place-e-2 .taken)
+
+pub loop-low-again : need.loop-low-again
+loop-low-again c =
+    let m = c .args .self .now in
+    let k = c .loop-low .low + (c .loop-low .high - c .loop-low .low) / 2 in
+    let apart = c .if-place-e .left in
+    halving-down (m .n) (m .starts .now) (m .places .now) (m .costs .now) (view-arcs m) (c .args .a) (c .args .e) (omega arith) (c .loop-low .low) (c .loop-low .high) (c .loop-low .inv) k (omega arith) (omega arith) (omega arith)
+
+pub returns : need.returns
+returns c =
+    let m = c .args .self .now in
+    halving-end (m .n) (m .starts .now) (m .places .now) (m .costs .now) (view-arcs m) (c .args .a) (c .args .e) (omega arith) (c .loop-low .low) (c .loop-low .high) (c .loop-low .inv) (omega arith) (omega arith)

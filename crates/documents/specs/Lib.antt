@@ -1,0 +1,4 @@
+pub mod Kinds
+pub mod Maps
+pub mod Views
+pub mod Laws
