@@ -4,4 +4,5 @@ pub mod Searching
 pub mod Turns
 pub mod Numbers
 pub mod RowsOf
+pub mod Surveyed
 pub mod FirstArcs

@@ -1,8 +1,10 @@
-// Distances and next places: one row, all rows, and whether a map hangs together.
+// Distances and next places: one row, all rows, whether a map hangs together, and a map surveyed.
 mod dijkstra;
 pub mod joined;
 mod nexts;
 mod queue;
 pub mod rows;
+pub mod survey;
+pub mod surveying;
 #[cfg(test)]
 mod tests;
