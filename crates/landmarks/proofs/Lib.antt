@@ -1,3 +1,4 @@
 pub mod Closer
 pub mod Closest
 pub mod Near
+pub mod Numbered

@@ -1,2 +1,3 @@
 pub mod Landmarks
 pub mod Laws
+pub mod Numbers
