@@ -4,5 +4,6 @@ pub mod Bridges
 pub mod Saying
 pub mod Arriving
 pub mod Promised
+pub mod Turns
 pub mod Worked
 pub mod TreesThere

@@ -1,3 +1,5 @@
 // Walking: a step, a walk, and the promise of the whole.
 pub mod kinds;
 pub mod laws;
+pub mod steps;
+pub mod walks;
