@@ -5,5 +5,6 @@ pub mod Saying
 pub mod Arriving
 pub mod Promised
 pub mod Turns
+pub mod Among
 pub mod Worked
 pub mod TreesThere

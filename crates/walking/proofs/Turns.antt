@@ -25,7 +25,7 @@ use Rattle.walking.proofs.Promised.{promise}
 
 -- ---- turn by turn
 -- what a turn leaves to do
-abbrev pub after : (ℕ → ℕ → End) → ℕ → Turn → End
+abbrev after : (ℕ → ℕ → End) → ℕ → Turn → End
 after f cost (Gone e c) = f (cost + c) e
 after f cost (Over r) = r
 
@@ -41,27 +41,40 @@ after-step : (f : ℕ → ℕ → End) (z : Map) (cost u : ℕ) (h : Hop) (b : B
 after-step f z cost u h true = refl
 after-step f z cost u h false = after-hop f z cost u h
 
-pub travels-turn : (k : ℕ) (z : Map) (posts : Posts) (card : Card) (cost u : ℕ)
+travels-turn : (k : ℕ) (z : Map) (posts : Posts) (card : Card) (cost u : ℕ)
     → travels (suc k) z posts card cost u ≡ after (travels k z posts card) cost (turnBy z cost u (stepOf (posts u) card u))
 unfolding travels
 travels-turn k z posts card cost u = after-step (travels k z posts card) z cost u (goes (posts u) card u) (eqb u (card .place))
 
-pub travels-none : (z : Map) (posts : Posts) (card : Card) (cost u : ℕ) → travels 0 z posts card cost u ≡ Worn
+pub travels-none : (k : ℕ) (z : Map) (posts : Posts) (card : Card) (cost u : ℕ) → k ≡ 0 → travels k z posts card cost u ≡ Worn
 unfolding travels
-travels-none z posts card cost u = refl
+travels-none k z posts card cost u e = ap (λ j. travels j z posts card cost u) e
+
+-- the same, where i of m roads are gone
+module _ (z : Map) (posts : Posts) (card : Card) (m i cost u : ℕ) (l : i < m) where
+  turn-next : travels (m - i) z posts card cost u ≡ after (travels (m - (i + 1)) z posts card) cost (turnBy z cost u (stepOf (posts u) card u))
+  turn-next =
+      let e : m - i ≡ suc (m - (i + 1)) = omega arith in
+      ap (λ k. travels k z posts card cost u) e ∙ travels-turn (m - (i + 1)) z posts card cost u
+
+  pub turn-over : (r : End) → Over r ≡ turnBy z cost u (stepOf (posts u) card u) → r ≡ travels (m - i) z posts card cost u
+  turn-over r h = ap (after (travels (m - (i + 1)) z posts card) cost) h ∙ sym turn-next
+
+  pub turn-gone : (e c : ℕ) → Gone e c ≡ turnBy z cost u (stepOf (posts u) card u) → travels (m - (i + 1)) z posts card (cost + c) e ≡ travels (m - i) z posts card cost u
+  turn-gone e c h = ap (after (travels (m - (i + 1)) z posts card) cost) h ∙ sym turn-next
 
 -- a road gone costs what the map says
-gone-road : (u e k c : ℕ) (b : Bool) (x : ℕ) → cond b (Gone e x) (Over (Stuck u)) ≡ Gone k c → c ≡ x
+gone-road : (u e k c : ℕ) (b : Bool) (x : ℕ) → Gone k c ≡ cond b (Gone e x) (Over (Stuck u)) → c ≡ x
 gone-road u e k c true x h = cc
 gone-road u e k c false x h = let y : _≡_ {A = ℕ} 0 1 = cc in absurd (omega arith)
 
-pub gone-cheap : (z : Map) (cost u e c : ℕ) (s : Step) → ((a b : ℕ) → z .cost a b ≤ 65535) → turnBy z cost u s ≡ Gone e c → c ≤ 65535
+pub gone-cheap : (z : Map) (cost u e c : ℕ) (s : Step) → ((a b : ℕ) → z .cost a b ≤ 65535) → Gone e c ≡ turnBy z cost u s → c ≤ 65535
 gone-cheap z cost u e c Here cheap h = let y : _≡_ {A = ℕ} 0 1 = cc in absurd (omega arith)
 gone-cheap z cost u e c Lost cheap h = let y : _≡_ {A = ℕ} 0 1 = cc in absurd (omega arith)
 gone-cheap z cost u e c (On x) cheap h = omega (arith, gone-road u x e c (ltb 0 (z .cost u x)) (z .cost u x) h, cheap u x)
 
 -- ---- posts that say the same at the places of the map lead the same way
-pub inside : (z : Map) → Meaning z → Inside z
+inside : (z : Map) → Meaning z → Inside z
 inside z means a e an pos = elim (cases-lt e (z .n))
     [ inl l ↦ l
     | inr l ↦ absurd (omega (arith, means .both a e, means .outside e a l)) ]
@@ -72,7 +85,7 @@ same-onward f g z cost u (To e) ins un same = elim (cases-bool (ltb 0 (z .cost u
     [ inl t ↦ ap (λ x. cond (ltb 0 (z .cost u e)) x (Stuck u)) (same (cost + z .cost u e) e (ins u e un (ltb-true 0 (z .cost u e) t)))
     | inr t ↦ ap (λ b. cond b (f (cost + z .cost u e) e) (Stuck u)) t ∙ sym (ap (λ b. cond b (g (cost + z .cost u e) e) (Stuck u)) t) ]
 
-pub same-posts : (k : ℕ) (z : Map) (posts posts′ : Posts) (card : Card) (cost u : ℕ) → Inside z → ((a : ℕ) → a < z .n → posts a ≡ posts′ a) → u < z .n
+same-posts : (k : ℕ) (z : Map) (posts posts′ : Posts) (card : Card) (cost u : ℕ) → Inside z → ((a : ℕ) → a < z .n → posts a ≡ posts′ a) → u < z .n
     → travels k z posts card cost u ≡ travels k z posts′ card cost u
 unfolding travels
 same-posts zero z posts posts′ card cost u ins same un = refl

@@ -1,15 +1,14 @@
-use mathlib.Core.Path.{_≡_, sym, ap, _∙_}
-use mathlib.Core.List.{List, [], map}
-use native.Mathlib.Omega.{arith}
-use lib.ListN.{getD}
-use Rattle.std.proofs.shelf.Lists.{getD-map}
-use Rattle.posts.specs.declared.kinds.Line.{Line}
-use Rattle.posts.specs.Posts.{told}
+use mathlib.Core.Path.{ap, _∙_}
 use Rattle.walking.specs.Walks.{stepOf}
+use Rattle.walking.proofs.Among.{post-here, no-post}
 use Rattle.walking.proofs.kinds.Walker.step_among.Needs as need
 
 pub returns-then-at-posts : need.returns-then-at-posts
-returns-then-at-posts c = let h = c .step .ensures in let i = c .index-posts-at in ?
+returns-then-at-posts c =
+    c .step .ensures
+    ∙ ap (λ lines. stepOf lines (c .args .self .card) (c .args .self .at)) (post-here (c .args .posts .now) (c .args .self .at) (c .index-posts-at .result) (c .if-at-posts .taken) (c .index-posts-at .is))
 
 pub returns-else-at-posts : need.returns-else-at-posts
-returns-else-at-posts c = let h = c .step-without-post .ensures in ?
+returns-else-at-posts c =
+    c .step-without-post .ensures
+    ∙ ap (λ lines. stepOf lines (c .args .self .card) (c .args .self .at)) (no-post (c .args .posts .now) (c .args .self .at) (c .if-at-posts .left))
