@@ -2,4 +2,6 @@
 pub mod kinds;
 pub mod laws;
 pub mod steps;
+#[cfg(test)]
+mod tests;
 pub mod walks;
