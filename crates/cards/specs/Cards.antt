@@ -1,5 +1,7 @@
 -- What stands on the card of a place, and the number of a hint. Assumes nothing.
+use mathlib.Core.Bool.{cond}
 use Prim.Native.Nat.{ℕ}
+use lib.Dec.{eqb}
 use Rattle.ways.specs.Map.{Map, Hop, Nowhere, To, hop}
 use Rattle.landmarks.specs.Landmarks.{Marks, markOf, placeOf}
 use Rattle.cards.specs.declared.kinds.Hint.{Hint}
@@ -10,6 +12,10 @@ use Rattle.cards.specs.declared.kinds.Card.{Card}
 abbrev pub hintNumber : Hint → ℕ
 hintNumber (Next e) = e
 hintNumber Unneeded = 65535
+
+-- the hint that a number of a document stands for
+abbrev pub hintFrom : ℕ → Hint
+hintFrom k = cond (eqb k 65535) Unneeded (Next k)
 
 abbrev pub hintOf : Hop → Hint
 hintOf Nowhere = Unneeded

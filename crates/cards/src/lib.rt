@@ -1,2 +1,3 @@
 // Cards: the place, its landmark, and a hint.
+pub mod hints;
 pub mod kinds;

@@ -19,10 +19,11 @@ module _ (z : Map) (l : Marks) (u v : ℕ) where
   -- past a place that isn't v
   find-past : (a k : ℕ) → (a ≡ v → ⊥) → findIn v (linesOf z l u a (suc k)) ≡ findIn v (linesOf z l u (a + 1) k)
   unfolding linesOf
-  find-past a k ne = elim (cases-bool (onPost z l u a))
-      [ inl t ↦ ap (findIn v) (cond-true (onPost z l u a) (lineOf z l u a ∷ linesOf z l u (a + 1) k) (linesOf z l u (a + 1) k) t)
-          ∙ cond-false (eqb a v) (Some (lineOf z l u a)) (findIn v (linesOf z l u (a + 1) k)) (ne-eqb a v ne)
-      | inr t ↦ ap (findIn v) (cond-false (onPost z l u a) (lineOf z l u a ∷ linesOf z l u (a + 1) k) (linesOf z l u (a + 1) k) t) ]
+  find-past a k ne = elim (cases-bool (onPost z l u a)) [
+    | inl t ↦ ap (findIn v) (cond-true (onPost z l u a) (lineOf z l u a ∷ linesOf z l u (a + 1) k) (linesOf z l u (a + 1) k) t)
+        ∙ cond-false (eqb a v) (Some (lineOf z l u a)) (findIn v (linesOf z l u (a + 1) k)) (ne-eqb a v ne)
+    | inr t ↦ ap (findIn v) (cond-false (onPost z l u a) (lineOf z l u a ∷ linesOf z l u (a + 1) k) (linesOf z l u (a + 1) k) t)
+  ]
 
   find-here : (k : ℕ) → onPost z l u v ≡ true → findIn v (linesOf z l u v (suc k)) ≡ Some (lineOf z l u v)
   unfolding linesOf
@@ -40,15 +41,17 @@ module _ (z : Map) (l : Marks) (u v : ℕ) where
 
   lines-some : onPost z l u v ≡ true → (k a : ℕ) → a ≤ v → v < a + k → findIn v (linesOf z l u a k) ≡ Some (lineOf z l u v)
   lines-some t zero a lo hi = absurd (omega arith)
-  lines-some t (suc k) a lo hi = elim (cases-eq a v)
-      [ inl e ↦ ap (λ x. findIn v (linesOf z l u x (suc k))) e ∙ find-here k t
-      | inr ne ↦ find-past a k ne ∙ lines-some t k (a + 1) (omega arith) (omega arith) ]
+  lines-some t (suc k) a lo hi = elim (cases-eq a v) [
+    | inl e ↦ ap (λ x. findIn v (linesOf z l u x (suc k))) e ∙ find-here k t
+    | inr ne ↦ find-past a k ne ∙ lines-some t k (a + 1) (omega arith) (omega arith)
+  ]
 
   lines-none : onPost z l u v ≡ false → (k a : ℕ) → findIn v (linesOf z l u a k) ≡ None
   lines-none t zero a = find-nil a
-  lines-none t (suc k) a = elim (cases-eq a v)
-      [ inl e ↦ ap (λ x. findIn v (linesOf z l u x (suc k))) e ∙ find-skip k t ∙ lines-none t k (v + 1)
-      | inr ne ↦ find-past a k ne ∙ lines-none t k (a + 1) ]
+  lines-none t (suc k) a = elim (cases-eq a v) [
+    | inl e ↦ ap (λ x. findIn v (linesOf z l u x (suc k))) e ∙ find-skip k t ∙ lines-none t k (v + 1)
+    | inr ne ↦ find-past a k ne ∙ lines-none t k (a + 1)
+  ]
 
   pub post-some : v < z .n → onPost z l u v ≡ true → findIn v (postOf z l u) ≡ Some (lineOf z l u v)
   post-some vn t = lines-some t (z .n) 0 (omega arith) (omega arith)

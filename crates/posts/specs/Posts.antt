@@ -6,12 +6,13 @@
 --   postOf    all lines of the post at u, in rising order of places
 --   told      the lines that a post in memory holds
 --   findIn    the line for a place among some lines
+--   placeAt   the place that the line at an index names
 use mathlib.Core.Path.{_≡_}
 use mathlib.Core.Bool.{Bool, true, false, cond}
 use mathlib.Core.List.{List, [], _∷_}
 use Prim.Native.Nat.{ℕ, zero, suc, _+_}
 use lib.Dec.{eqb}
-use lib.ListN.{take}
+use lib.ListN.{take, getD}
 use Rattle.std.specs.declared.option.Option.{Option}
 use Rattle.std.specs.declared.option.Option.the-variants.{Some, None}
 use Rattle.ways.specs.Map.{Map, hop}
@@ -36,3 +37,6 @@ told p = take (p .count) (p .lines)
 abbrev pub findIn : ℕ → List Line → Option Line
 findIn place [] = None
 findIn place (x ∷ xs) = cond (eqb (x .place) place) (Some x) (findIn place xs)
+
+abbrev pub placeAt : List Line → ℕ → ℕ
+placeAt xs k = getD xs k (record { place = 0; next = 0; near = false }) .place

@@ -21,3 +21,12 @@ pub struct Post {
     ghost within: { count ≤ 255 },
     ghost rising: { (k : ℕ) → k + 1 < count → getD lines k (record { place = 0; next = 0; near = false }) .place < getD lines (k + 1) (record { place = 0; next = 0; near = false }) .place },
 }
+
+/// Why a post does not take a line.
+#[derive(Clone, Copy, PartialEq, Eq, Debug)]
+pub enum Refused {
+    /// The post has 255 lines.
+    Full,
+    /// The line names a place that isn't above that of the last line.
+    Order,
+}

@@ -1,2 +1,3 @@
 // Posts: lines, and the post at a place.
 pub mod kinds;
+pub mod post;

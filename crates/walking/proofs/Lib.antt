@@ -4,5 +4,7 @@ pub mod Bridges
 pub mod Saying
 pub mod Arriving
 pub mod Promised
+pub mod Turns
+pub mod Among
 pub mod Worked
 pub mod TreesThere

@@ -3,26 +3,38 @@
 -- Glossary
 --   Posts     the lines that stand at each place, right or wrong
 --   goes      where one goes on at u, by the lines there and the card alone
+--   stepOf    the step of a walker at u: he has arrived, or goes on
+--   turnBy    what comes of a step at u on a map, after roads of some cost
 --   travels   how a walk ends that may go so many roads more, from u, after roads of some cost
 use mathlib.Core.Path.{_≡_}
 use mathlib.Core.Bool.{Bool, true, false, cond}
-use mathlib.Core.List.{List}
+use mathlib.Core.List.{List, [], map}
 use Prim.Native.Nat.{ℕ, zero, suc, _+_, _*_}
 use lib.Dec.{eqb, ltb}
+use lib.ListN.{getD}
 use Rattle.std.specs.declared.option.Option.{Option}
 use Rattle.std.specs.declared.option.Option.the-variants.{Some, None}
 use Rattle.ways.specs.Map.{Map, Hop, Nowhere, To}
 use Rattle.landmarks.specs.Landmarks.{Marks}
 use Rattle.posts.specs.declared.kinds.Line.{Line}
-use Rattle.posts.specs.Posts.{findIn, postOf}
+use Rattle.posts.specs.declared.kinds.Post.{Post}
+use Rattle.posts.specs.Posts.{told, findIn, postOf}
 use Rattle.cards.specs.declared.kinds.Hint.{Hint}
 use Rattle.cards.specs.declared.kinds.Hint.the-variants.{Next, Unneeded}
 use Rattle.cards.specs.declared.kinds.Card.{Card}
+use Rattle.walking.specs.declared.kinds.Step.{Step}
+use Rattle.walking.specs.declared.kinds.Step.the-variants.{Here, On, Lost}
+use Rattle.walking.specs.declared.kinds.Turn.{Turn}
+use Rattle.walking.specs.declared.kinds.Turn.the-variants.{Gone, Over}
 use Rattle.walking.specs.declared.kinds.End.{End}
 use Rattle.walking.specs.declared.kinds.End.the-variants.{Arrived, Stuck, Worn}
 
 abbrev pub Posts : Type 0
 Posts = ℕ → List Line
+
+-- posts in memory, in the order of their places; beyond the last there are no lines
+abbrev pub postsIn : List Post → Posts
+postsIn posts u = getD (map told posts) u []
 
 -- the number of each end
 abbrev pub endNumber : End → ℕ
@@ -44,10 +56,27 @@ abbrev pub asNear : Option Line → Hop → Hop
 asNear None h = h
 asNear (Some x) h = cond (x .near) (To (x .next)) h
 
+-- At the landmark of the card, as the hint says. Else as the line of the landmark says.
+abbrev pub pastNear : List Line → Card → ℕ → Hop
+pastNear lines card u = cond (eqb u (card .landmark)) (asHint (card .hint)) (asLine (findIn (card .landmark) lines))
+
 -- If the place has a line as near, as it says. Else, at the landmark of the card, as the hint says. Else as the line of the landmark says.
 abbrev pub goes : List Line → Card → ℕ → Hop
-goes lines card u =
-    asNear (findIn (card .place) lines) (cond (eqb u (card .landmark)) (asHint (card .hint)) (asLine (findIn (card .landmark) lines)))
+goes lines card u = asNear (findIn (card .place) lines) (pastNear lines card u)
+
+-- one step: first of all, whether one has arrived
+abbrev pub asStep : Hop → Step
+asStep Nowhere = Lost
+asStep (To e) = On e
+
+abbrev pub stepOf : List Line → Card → ℕ → Step
+stepOf lines card u = cond (eqb u (card .place)) Here (asStep (goes lines card u))
+
+-- one step on a map, along a road, if there is one
+abbrev pub turnBy : Map → ℕ → ℕ → Step → Turn
+turnBy z cost u Here = Over (Arrived cost)
+turnBy z cost u Lost = Over (Stuck u)
+turnBy z cost u (On e) = cond (ltb 0 (z .cost u e)) (Gone e (z .cost u e)) (Over (Stuck u))
 
 -- along a road, if there is one
 abbrev pub onward : (ℕ → ℕ → End) → Map → ℕ → ℕ → Hop → End
