@@ -1,9 +1,10 @@
-//! The oracle's command: `oracle plan|walk|change|rows [FILE…]` and `oracle generate KIND SEED PLACES ROADS`.
+//! The oracle's command: what the programs say, what is told of landmarks, and maps that are made.
 
 use oracle::faults::Refusal;
 use oracle::generate::{generate, Kind};
 use oracle::map::{MOST_PLACES, MOST_ROADS};
 use oracle::programs::{named, repeated_rows};
+use oracle::telling::{posts, walks, Telling};
 use oracle::writing::write_map;
 use std::io::{self, Read, Write};
 use std::process::ExitCode;
@@ -13,6 +14,8 @@ fn main() -> ExitCode {
     let name = words.first().map_or("oracle", |word| word.as_str());
     let answer = match name {
         "generate" => write_generated(&words[1..]),
+        "walks" => tell(walks, &words[1..]),
+        "posts" => tell(posts, &words[1..]),
         _ => run_program(name, words.get(1..).unwrap_or_default()),
     };
     let written =
@@ -28,8 +31,9 @@ fn main() -> ExitCode {
 
 /// Runs the program of that name on the words behind it.
 fn run_program(name: &str, words: &[String]) -> Result<Vec<u8>, String> {
-    let usage =
-        "usage: oracle plan|walk|change|rows [FILE…] or oracle generate KIND SEED PLACES ROADS";
+    let usage = "usage: oracle plan|walk|change|rows [FILE…], \
+                 oracle walks|posts --landmarks A,B,C [FILE…] \
+                 or oracle generate KIND SEED PLACES ROADS";
     let program = named(name).ok_or(usage)?;
     let said = match words {
         [option, times, files @ ..] if name == "rows" && option == "--repeat" => {
@@ -46,6 +50,19 @@ fn run_program(name: &str, words: &[String]) -> Result<Vec<u8>, String> {
 /// The whole of a refusal: what every implementation says, and the fault in the oracle's words.
 fn in_words(refusal: Refusal) -> String {
     format!("{refusal}: {}", refusal.fault.text())
+}
+
+/// What is told of the landmarks and the map that the words name.
+fn tell(telling: Telling, words: &[String]) -> Result<Vec<u8>, String> {
+    let [option, list, files @ ..] = words else {
+        return Err("landmarks: --landmarks A,B,C is wanted".to_string());
+    };
+    if option != "--landmarks" {
+        return Err("landmarks: --landmarks A,B,C is wanted first".to_string());
+    }
+    let told = telling(&read_files(files)?, list);
+    told.map(String::into_bytes)
+        .map_err(|refused| format!("{refused}: {}", refused.text()))
 }
 
 /// The bytes of the files one after the other; standard input if there are none, and for `-`.

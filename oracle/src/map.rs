@@ -39,6 +39,15 @@ impl Map {
         found
     }
 
+    /// The cost of the road between two places; none where there is no road.
+    pub fn cost(&self, one: usize, other: usize) -> Option<u32> {
+        let ends = (one.min(other), one.max(other));
+        let mut roads = self.roads.iter();
+        roads
+            .find(|road| (road.lower, road.higher) == ends)
+            .map(|road| road.cost)
+    }
+
     /// Whether every place can be reached from place 0.
     pub fn is_connected(&self) -> bool {
         let mut reached = vec![false; self.places];
@@ -78,6 +87,17 @@ mod tests {
         };
         assert_eq!(map.neighbours(2), [(0, 5), (1, 7), (3, 1)]);
         assert_eq!(map.neighbours(3), [(2, 1)]);
+    }
+
+    #[test]
+    fn a_road_costs_the_same_both_ways() {
+        let map = Map {
+            places: 3,
+            roads: vec![road(0, 2, 5), road(1, 2, 7)],
+        };
+        assert_eq!((map.cost(1, 2), map.cost(2, 1)), (Some(7), Some(7)));
+        assert_eq!((map.cost(0, 1), map.cost(2, 2)), (None, None));
+        assert_eq!(map.cost(2, 65_535), None);
     }
 
     #[test]
