@@ -1,3 +1,4 @@
 pub mod Landmarks
 pub mod Laws
 pub mod Numbers
+pub mod Lands

@@ -21,3 +21,8 @@ landmarkIn z l v = cond (ltb v (z .n)) (markNumbers (markOf z l v)) None
 abbrev pub orNearer : Option Nearest → ℕ → ℕ → Option Nearest
 orNearer None k x = Some (record { place = k; away = x })
 orNearer (Some b) k x = cond (ltb x (b .away)) (Some (record { place = k; away = x })) (Some b)
+
+-- the same where there is a landmark; where there is none, place 0 at no distance
+abbrev pub markNumber : Mark → Nearest
+markNumber NoMark = record { place = 0; away = 4294967295 }
+markNumber (Is m a) = record { place = m; away = farNumber a }

@@ -25,7 +25,7 @@ fn nearer(best: Option<Nearest>, place: u16, away: u32) -> Option<Nearest>
 }
 
 // Whether a place is a landmark; what the list does not reach is none.
-fn is_marked(marks: &[bool], k: usize) -> bool
+pub(crate) fn is_marked(marks: &[bool], k: usize) -> bool
     ensures { λ r. ⌜ r ≡ marksIn (now (marks .entry)) k ⌝ }
 {
     k < marks.len() && marks[k]

@@ -4,6 +4,7 @@ ghost use Rattle.maps.specs.Faults.{numberOf};
 ghost use Rattle.maps.specs.declared.kinds.Fault.the-variants.{Memory};
 use super::kinds::Fault;
 use std::alloc::AllocError;
+use std::alloc::Refused;
 
 impl Fault {
     /// The number by which the fault is told; 0 for want of memory, which is no fault of the input.
@@ -28,6 +29,14 @@ pub impl From<AllocError> for Fault as FaultFromAlloc {
     ghost converts = { λ _ r. r ≡ Memory };
 
     fn from(_e: AllocError) -> Fault {
+        Fault::Memory
+    }
+}
+
+pub impl<T: Drop> From<Refused<T>> for Fault as FaultFromRefused {
+    ghost converts = { λ _ r. r ≡ Memory };
+
+    fn from(_error: Refused<T>) -> Fault {
         Fault::Memory
     }
 }
