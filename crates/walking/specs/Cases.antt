@@ -1,31 +1,21 @@
 -- Worked cases: what is near, hinted, passed and paid on small maps with their landmarks. Assumes nothing.
 use mathlib.Core.Path.{_≡_}
-use mathlib.Core.Bool.{Bool, true, false, cond, _&&_, not}
+use mathlib.Core.Bool.{Bool, true, false, _&&_, not}
 use mathlib.Core.List.{List, [], _∷_}
-use Prim.Native.Nat.{ℕ, zero, suc, _*_, _<_, _≤_}
+use Prim.Native.Nat.{ℕ, _*_, _<_, _≤_}
 use lib.Dec.{eqb}
 use lib.ListN.{length}
-use Rattle.ways.specs.Map.{Map, Far, At, far, sameFar, Hop, Nowhere, To}
+use Rattle.ways.specs.Map.{Map, Far, At, far, sameFar}
 use Rattle.ways.specs.Ways.{allBelow}
 use Rattle.landmarks.specs.Landmarks.{Marks, near, Sound}
 use Rattle.posts.specs.declared.kinds.Line.{Line}
 use Rattle.posts.specs.Posts.{postOf}
-use Rattle.cards.specs.declared.kinds.Card.{Card}
 use Rattle.cards.specs.Cards.{hintNumber, cardOf}
-use Rattle.walking.specs.Walks.{Posts, goes, walkOf, postsOf}
+use Rattle.walking.specs.Walks.{walkOf, trailOf, postsOf}
 use Rattle.walking.specs.Trees.{Tree}
 use Rattle.walking.specs.SmallMaps.{row, star, triangle, flat, only, every}
 use Rattle.walking.specs.declared.kinds.End.{End}
 use Rattle.walking.specs.declared.kinds.End.the-variants.{Arrived, Stuck, Worn}
-
--- ---- the places that one passes after u, up to the last
-abbrev pub passing : (ℕ → List ℕ) → Hop → List ℕ
-passing f Nowhere = []
-passing f (To e) = e ∷ f e
-
-unfoldable pub passed : ℕ → Posts → Card → ℕ → List ℕ
-passed zero posts card u = []
-passed (suc k) posts card u = cond (eqb u (card .place)) [] (passing (passed k posts card) (goes (posts u) card u))
 
 -- ---- a case, and whether it holds
 pub record Case : Type 0 where
@@ -60,7 +50,7 @@ holds c =
     sameBool (near (c .map) (c .marks) (c .from) (c .to)) (c .isNear)
     && sameFar (far (c .map) (c .to) (c .from)) (At (c .away))
     && eqb (hintNumber (cardOf (c .map) (c .marks) (c .to) .hint)) (c .hint)
-    && sameList (passed (2 * c .map .n) (postsOf (c .map) (c .marks)) (cardOf (c .map) (c .marks) (c .to)) (c .from)) (c .by)
+    && sameList (trailOf (c .map) (postsOf (c .map) (c .marks)) (cardOf (c .map) (c .marks) (c .to)) (c .from)) (c .by)
     && arrivedAt (walkOf (c .map) (postsOf (c .map) (c .marks)) (cardOf (c .map) (c .marks) (c .to)) (c .from)) (At (c .cost))
 
 unfoldable pub allHold : List Case → Bool
