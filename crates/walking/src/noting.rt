@@ -7,7 +7,7 @@ ghost use Rattle.std.specs.Of.Vec.{vec-items};
 ghost use Rattle.std.specs.Vec.{made};
 ghost use Rattle.maps.specs.Charts.{chart};
 ghost use Rattle.walking.specs.Walks.{postsIn, walkOf, trailOf};
-ghost use Rattle.walking.specs.Promise.{Keeps};
+ghost use Rattle.walking.specs.Promise.{Keeps, Passes};
 use super::kinds::End;
 use super::kinds::Turn;
 use super::kinds::Walker;
@@ -27,6 +27,7 @@ pub fn walk_noting(
 ) -> Result<End, AllocError>
     ensures end { λ r. ⌜ made r (λ e. e ≡ walkOf (chart (now (map .entry))) (postsIn (now (posts .entry))) card from) ⌝ }
     ensures promise { λ r. ⌜ made r (λ e. Keeps (chart (now (map .entry))) (postsIn (now (posts .entry))) card from e) ⌝ }
+    ensures way { λ r. ⌜ made r (λ e. Passes (chart (now (map .entry))) (postsIn (now (posts .entry))) card from e) ⌝ }
     ensures passed { λ r. ⌜ vec-items (now (passed .exit)) ≡ cond (isOk r) (vec-items (now (passed .entry)) ++ trailOf (chart (now (map .entry))) (postsIn (now (posts .entry))) card from) (vec-items (now (passed .entry))) ⌝ }
 {
     let budget = 2 * map.n;

@@ -2,6 +2,7 @@
 use super::kinds::End;
 use super::kinds::EndDebug;
 use super::kinds::EndPartialEq;
+use super::noting::walk_noting;
 use super::walks::walk;
 use cards::kinds::Card;
 use cards::kinds::Hint;
@@ -80,4 +81,13 @@ fn two_posts_point_at_each_other(rt: LibcRuntime) -> Result<(), Fail> {
     let wrong = [post(&[near(3, 1)]), post(&[near(3, 0)])];
     check_eq(walk(&map.map(), &wrong, card(3), 0), End::Worn)?;
     check_eq(End::Worn.number(), 2)
+}
+
+#[test]
+fn the_places_passed(rt: LibcRuntime) -> Result<(), Fail> {
+    let map = row(rt.alloc())?;
+    let mut passed = Vec::new(rt.alloc());
+    let end = walk_noting(&map.map(), &posts(), card(3), 0, &mut passed)?;
+    check_eq(end, End::Arrived(3))?;
+    check_eq(passed.as_slice(), &[1, 2, 3])
 }

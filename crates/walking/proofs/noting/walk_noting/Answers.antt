@@ -8,7 +8,7 @@ use Rattle.maps.proofs.Views.{view-arcs, view-means}
 use Rattle.walking.specs.Walks.{postsIn, stepOf, walkOf, trail, trailOf}
 use Rattle.walking.specs.declared.kinds.End.the-variants.{Worn}
 use Rattle.walking.proofs.Turns.{turn-over, turn-gone, travels-none, gone-cheap, keeps}
-use Rattle.walking.proofs.Trails.{trail-ends, trail-over, trail-gone}
+use Rattle.walking.proofs.Trails.{trail-ends, trail-over, trail-gone, passes}
 use Rattle.walking.proofs.noting.walk_noting.Needs as need
 
 pub add-cost : need.add-cost
@@ -24,6 +24,7 @@ returns-in-Over c =
     record {
       end = e;
       promise = keeps z posts (c .args .card) (c .args .from) (c .in-Over .end) (view-means (c .args .map .now)) e;
+      way = passes z posts (c .args .card) (c .args .from) (c .in-Over .end) e;
       passed =
           trail-over z posts (c .args .card) m (c .loop-i .-i) (c .loop-i .cost) (c .loop-i .at) (vec-items (c .loop-i .passed)) (c .loop-i-test .taken) (c .in-Over .end) (c .in-Over .ensures tt)
           ∙ c .loop-i .inv .2
@@ -52,6 +53,7 @@ returns c =
     record {
       end = e;
       promise = keeps z posts (c .args .card) (c .args .from) Worn (view-means (c .args .map .now)) e;
+      way = passes z posts (c .args .card) (c .args .from) Worn e;
       passed =
           trail-ends (m - c .loop-i .-i) z posts (c .args .card) (c .loop-i .at) (vec-items (c .loop-i .passed)) none
           ∙ c .loop-i .inv .2
