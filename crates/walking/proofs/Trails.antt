@@ -2,12 +2,11 @@
 use mathlib.Core.Path.{_≡_, refl, sym, ap, _∙_, subst}
 use mathlib.Core.List.{List, [], _∷_, _++_}
 use mathlib.Core.Bool.{Bool, true, false, cond}
-use mathlib.Core.Logic.{inl, inr}
 use Prim.Native.Nat.{ℕ, zero, suc, _+_, _-_, _*_, _<_}
 use native.Mathlib.Omega.{arith}
 use lib.Dec.{eqb, ltb}
 use Rattle.std.proofs.shelf.Lists.{append-assoc, append-nil}
-use Rattle.std.proofs.shelf.Tests.{cases-bool, eqb-true, ltb-true}
+use Rattle.std.proofs.shelf.Tests.{eqb-true, ltb-true}
 use Rattle.ways.specs.Map.{Map, Hop, Nowhere, To}
 use Rattle.cards.specs.declared.kinds.Card.{Card}
 use Rattle.walking.specs.Walks.{Posts, goes, asStep, stepOf, turnBy, onward, travels, walkOf, comes, trail, trailOf}
@@ -16,7 +15,7 @@ use Rattle.walking.specs.declared.kinds.Step.{Step}
 use Rattle.walking.specs.declared.kinds.Step.the-variants.{Here, On, Lost}
 use Rattle.walking.specs.declared.kinds.Turn.the-variants.{Gone, Over}
 use Rattle.walking.specs.declared.kinds.End.{End}
-use Rattle.walking.specs.declared.kinds.End.the-variants.{Arrived, Stuck, Worn}
+use Rattle.walking.specs.declared.kinds.End.the-variants.{Arrived, Stuck}
 
 -- where one comes doesn't depend on what was paid
 comes-same : (f : ℕ → List ℕ) (z : Map) (cost u : ℕ) (s : Step) → comes f (turnBy z 0 u s) ≡ comes f (turnBy z cost u s)

@@ -48,6 +48,15 @@ road-map-both n rs a e = priced-both rs a e
 pub thrice-reached : Thrice
 unfolding within lowest firstOf nearest linesOf travels priced allBelow
 thrice-reached = record {
-    z = flat; l = only 0; u = 2; v = 1; away = 1;
-    sound = record { both = road-map-both 3 flatRoads; joined = hanging-together flat (road-map-both 3 flatRoads) (omega arith) .0 refl; some-mark = (0, omega arith, refl) };
-    u-there = omega arith; v-there = omega arith; away-is = refl; some = omega arith; reached = refl }
+  z = flat;
+  l = only 0;
+  u = 2;
+  v = 1;
+  away = 1;
+  sound = record { both = road-map-both 3 flatRoads; joined = hanging-together flat (road-map-both 3 flatRoads) (omega arith) .0 refl; some-mark = (0, omega arith, refl) };
+  u-there = omega arith;
+  v-there = omega arith;
+  away-is = refl;
+  some = omega arith;
+  reached = refl;
+}

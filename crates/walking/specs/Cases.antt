@@ -61,17 +61,17 @@ allHold (c ∷ cs) = holds c && allHold cs
 abbrev pub cases : List Case
 cases =
     record { map = row; marks = only 0; from = 0; to = 3; isNear = false; away = 3; hint = 1; by = 1 ∷ 2 ∷ 3 ∷ []; cost = 3 }
-  ∷ record { map = row; marks = only 0; from = 1; to = 3; isNear = true; away = 2; hint = 1; by = 2 ∷ 3 ∷ []; cost = 2 }
-  ∷ record { map = row; marks = only 0; from = 2; to = 3; isNear = true; away = 1; hint = 1; by = 3 ∷ []; cost = 1 }
-  ∷ record { map = row; marks = only 0; from = 4; to = 3; isNear = true; away = 1; hint = 1; by = 3 ∷ []; cost = 1 }
-  ∷ record { map = row; marks = only 0; from = 4; to = 1; isNear = false; away = 3; hint = 1; by = 3 ∷ 2 ∷ 1 ∷ []; cost = 3 }
-  ∷ record { map = star; marks = only 1; from = 2; to = 3; isNear = false; away = 2; hint = 0; by = 0 ∷ 3 ∷ []; cost = 2 }
-  ∷ record { map = star; marks = only 1; from = 0; to = 3; isNear = true; away = 1; hint = 0; by = 3 ∷ []; cost = 1 }
-  ∷ record { map = triangle; marks = only 0; from = 1; to = 2; isNear = false; away = 3; hint = 2; by = 0 ∷ 2 ∷ []; cost = 4 }
-  ∷ record { map = flat; marks = only 0; from = 2; to = 1; isNear = false; away = 1; hint = 1; by = 0 ∷ 1 ∷ []; cost = 3 }
-  ∷ record { map = row; marks = every; from = 4; to = 1; isNear = false; away = 3; hint = 65535; by = 3 ∷ 2 ∷ 1 ∷ []; cost = 3 }
-  ∷ record { map = triangle; marks = every; from = 1; to = 2; isNear = false; away = 3; hint = 65535; by = 2 ∷ []; cost = 3 }
-  ∷ []
+    ∷ record { map = row; marks = only 0; from = 1; to = 3; isNear = true; away = 2; hint = 1; by = 2 ∷ 3 ∷ []; cost = 2 }
+    ∷ record { map = row; marks = only 0; from = 2; to = 3; isNear = true; away = 1; hint = 1; by = 3 ∷ []; cost = 1 }
+    ∷ record { map = row; marks = only 0; from = 4; to = 3; isNear = true; away = 1; hint = 1; by = 3 ∷ []; cost = 1 }
+    ∷ record { map = row; marks = only 0; from = 4; to = 1; isNear = false; away = 3; hint = 1; by = 3 ∷ 2 ∷ 1 ∷ []; cost = 3 }
+    ∷ record { map = star; marks = only 1; from = 2; to = 3; isNear = false; away = 2; hint = 0; by = 0 ∷ 3 ∷ []; cost = 2 }
+    ∷ record { map = star; marks = only 1; from = 0; to = 3; isNear = true; away = 1; hint = 0; by = 3 ∷ []; cost = 1 }
+    ∷ record { map = triangle; marks = only 0; from = 1; to = 2; isNear = false; away = 3; hint = 2; by = 0 ∷ 2 ∷ []; cost = 4 }
+    ∷ record { map = flat; marks = only 0; from = 2; to = 1; isNear = false; away = 1; hint = 1; by = 0 ∷ 1 ∷ []; cost = 3 }
+    ∷ record { map = row; marks = every; from = 4; to = 1; isNear = false; away = 3; hint = 65535; by = 3 ∷ 2 ∷ 1 ∷ []; cost = 3 }
+    ∷ record { map = triangle; marks = every; from = 1; to = 2; isNear = false; away = 3; hint = 65535; by = 2 ∷ []; cost = 3 }
+    ∷ []
 
 abbrev pub Cases-hold : Type 0
 Cases-hold = allHold cases ≡ true
@@ -85,8 +85,8 @@ noneNear (x ∷ xs) = not (x .near) && noneNear xs
 abbrev pub everywhere : Map → Bool
 everywhere z =
     allBelow (z .n) (λ u.
-      noneNear (postOf z every u)
-      && allBelow (z .n) (λ v. not (near z every u v) && arrivedAt (walkOf z (postsOf z every) (cardOf z every v) u) (far z v u)))
+    noneNear (postOf z every u)
+    && allBelow (z .n) (λ v. not (near z every u v) && arrivedAt (walkOf z (postsOf z every) (cardOf z every v) u) (far z v u)))
 
 abbrev pub Landmarks-everywhere : Type 0
 Landmarks-everywhere = (everywhere row && everywhere triangle) ≡ true

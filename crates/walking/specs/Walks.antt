@@ -7,8 +7,7 @@
 --   turnBy    what comes of a step at u on a map, after roads of some cost
 --   travels   how a walk ends that may go so many roads more, from u, after roads of some cost
 --   trail     the places to which one comes on such a walk after u, in their order
-use mathlib.Core.Path.{_≡_}
-use mathlib.Core.Bool.{Bool, true, false, cond}
+use mathlib.Core.Bool.{cond}
 use mathlib.Core.List.{List, [], _∷_, map}
 use Prim.Native.Nat.{ℕ, zero, suc, _+_, _*_}
 use lib.Dec.{eqb, ltb}
