@@ -28,9 +28,10 @@ worn-not c e = let k : _≡_ {A = ℕ} 0 1 = cc in omega arith
 -- one goes on by a road
 onward-road : (f : ℕ → ℕ → End) (z : Map) (cost u c : ℕ) (h : Hop) → onward f z cost u h ≡ Arrived c → (e : ℕ) × (h ≡ To e) × (0 < z .cost u e) × (f (cost + z .cost u e) e ≡ Arrived c)
 onward-road f z cost u c Nowhere a = absurd (stuck-not u c a)
-onward-road f z cost u c (To e) a = elim (cases-bool (ltb 0 (z .cost u e)))
-    [ inl t ↦ (e, refl, ltb-true 0 (z .cost u e) t, sym (ap (λ b. cond b (f (cost + z .cost u e) e) (Stuck u)) t) ∙ a)
-    | inr t ↦ absurd (stuck-not u c (sym (ap (λ b. cond b (f (cost + z .cost u e) e) (Stuck u)) t) ∙ a)) ]
+onward-road f z cost u c (To e) a = elim (cases-bool (ltb 0 (z .cost u e))) [
+  | inl t ↦ (e, refl, ltb-true 0 (z .cost u e) t, sym (ap (λ b. cond b (f (cost + z .cost u e) e) (Stuck u)) t) ∙ a)
+  | inr t ↦ absurd (stuck-not u c (sym (ap (λ b. cond b (f (cost + z .cost u e) e) (Stuck u)) t) ∙ a))
+]
 
 journey-worn : (z : Map) (rule : Rule) (v cost u c : ℕ) → journey 0 z rule v cost u ≡ Arrived c → ⊥
 unfolding journey
@@ -42,12 +43,13 @@ journey-onward z rule v j cost u ne = ap (λ t. cond t (Arrived cost) (onward (j
 
 pub arrived-followed : Arrived-followed
 arrived-followed z rule v zero cost u c inside un vn a = absurd (journey-worn z rule v cost u c a)
-arrived-followed z rule v (suc k) cost u c inside un vn a = elim (cases-eq u v)
-    [ inl e ↦ (let s = arrived-same cost c (sym (journey-stops z rule v k u cost e) ∙ a) in
-               (0, 0, omega (arith, s), omega arith, subst (λ x. Follow z rule v x 0 0) (sym e) (there vn)))
-    | inr ne ↦ (let o = onward-road (journey k z rule v) z cost u c (rule u) (sym (journey-onward z rule v k cost u ne) ∙ a) in
-                let r = arrived-followed z rule v k (cost + z .cost u (o .0)) (o .0) c inside (inside u (o .0) un (o .2)) vn (o .3) in
-                (z .cost u (o .0) + r .0, 1 + r .1, omega (arith, r .2), omega (arith, r .3), on u (o .0) (r .0) (r .1) un ne (o .1) (o .2) (r .4))) ]
+arrived-followed z rule v (suc k) cost u c inside un vn a = elim (cases-eq u v) [
+  | inl e ↦ (let s = arrived-same cost c (sym (journey-stops z rule v k u cost e) ∙ a) in
+      (0, 0, omega (arith, s), omega arith, subst (λ x. Follow z rule v x 0 0) (sym e) (there vn)))
+  | inr ne ↦ (let o = onward-road (journey k z rule v) z cost u c (rule u) (sym (journey-onward z rule v k cost u ne) ∙ a) in
+      let r = arrived-followed z rule v k (cost + z .cost u (o .0)) (o .0) c inside (inside u (o .0) un (o .2)) vn (o .3) in
+      (z .cost u (o .0) + r .0, 1 + r .1, omega (arith, r .2), omega (arith, r .3), on u (o .0) (r .0) (r .1) un ne (o .1) (o .2) (r .4)))
+]
 
 -- ---- by posts and a card
 pub walks-ways : Walks-ways

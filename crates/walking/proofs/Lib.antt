@@ -5,6 +5,7 @@ pub mod Saying
 pub mod Arriving
 pub mod Promised
 pub mod Turns
+pub mod Trails
 pub mod Among
 pub mod Worked
 pub mod TreesThere

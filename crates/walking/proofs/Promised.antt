@@ -10,7 +10,7 @@ use Rattle.ways.specs.Map.{Map, At, far, Nowhere, To}
 use Rattle.ways.specs.Ways.{Joined}
 use Rattle.ways.proofs.Fars.{at-same}
 use Rattle.ways.proofs.NextPlaces.{hop-here}
-use Rattle.landmarks.specs.Landmarks.{Marks, Is, markOf, placeOf, near, Sound}
+use Rattle.landmarks.specs.Landmarks.{Marks, Is, markOf, placeOf, near}
 use Rattle.landmarks.specs.Laws.{Landmark, SomeMark}
 use Rattle.landmarks.proofs.Closest.{landmark-there, landmark-own}
 use Rattle.landmarks.proofs.Near.{near-so, near-stays, near-from-landmark}
@@ -48,12 +48,15 @@ module _ (z : Map) (l : Marks) (joined : Joined z) (some : SomeMark z l) (v : �
 
   pub guide : Guide z (known z l v) mark v
   guide = record {
-      place = vn; landmark = mark-there;
-      home = or-right (near z l v v) (eqb v v) (eq-eqb v v refl);
-      stays = λ u w un k h. elim (or-cases (near z l u v) (eqb u v) k)
-        [ inl t ↦ or-left (near z l w v) (eqb w v) (near-stays z l u v w un vn t h)
-        | inr t ↦ absurd (let x : Nowhere ≡ To w = sym (hop-here z v u (eqb-true u v t)) ∙ h in let y : _≡_ {A = ℕ} 0 1 = cc in omega arith) ];
-      starts = λ w h. or-left (near z l w v) (eqb w v) (near-from-landmark z l v w vn h) }
+    place = vn;
+    landmark = mark-there;
+    home = or-right (near z l v v) (eqb v v) (eq-eqb v v refl);
+    stays = λ u w un k h. elim (or-cases (near z l u v) (eqb u v) k) [
+      | inl t ↦ or-left (near z l w v) (eqb w v) (near-stays z l u v w un vn t h)
+      | inr t ↦ absurd (let x : Nowhere ≡ To w = sym (hop-here z v u (eqb-true u v t)) ∙ h in let y : _≡_ {A = ℕ} 0 1 = cc in omega arith)
+    ];
+    starts = λ w h. or-left (near z l w v) (eqb w v) (near-from-landmark z l v w vn h);
+  }
 
   pub wide : Wide z (known z l v) mark v
   wide u p r un h g lt =
@@ -64,7 +67,7 @@ module _ (z : Map) (l : Marks) (joined : Joined z) (some : SomeMark z l) (v : �
   pub walk-follows : (u : ℕ) (w : GuidedWalk z (known z l v) mark v u) → Follow z (saying (postsOf z l) card) v u (w .cost) (w .roads)
   walk-follows u w =
       follow-like z (ruleOf z (known z l v) mark v) (saying (postsOf z l) card) v u (w .cost) (w .roads)
-        (λ a an ne. saying-rule z l joined v vn a mark-there mark-marked an ne) (w .walked .follows)
+      (λ a an ne. saying-rule z l joined v vn a mark-there mark-marked an ne) (w .walked .follows)
 
   pub walk-ends : (u : ℕ) (w : GuidedWalk z (known z l v) mark v u) (j : ℕ) → w .roads < j → travels j z (postsOf z l) card 0 u ≡ Arrived (w .cost)
   walk-ends u w j lt =
@@ -79,13 +82,19 @@ promise z l sound u v un vn =
     let w = guided z l (sound .joined) (sound .some-mark) v vn u un in
     let d = sound .joined v u vn un in
     record {
-      cost = w .cost; roads = w .roads; away = d .0; away-is = d .1;
+      cost = w .cost;
+      roads = w .roads;
+      away = d .0;
+      away-is = d .1;
       arrives = walk-ends z l (sound .joined) (sound .some-mark) v vn u w (2 * z .n) (omega (arith, w .walked .few));
       no-ring = λ x i j. no-ring z (saying (postsOf z l) (cardOf z l v)) v u x (w .cost) (w .roads) i j (walk-follows z l (sound .joined) (sound .some-mark) v vn u w);
-      few = w .walked .few; in-time = walk-ends z l (sound .joined) (sound .some-mark) v vn u w; way = w .walked .way;
+      few = w .walked .few;
+      in-time = walk-ends z l (sound .joined) (sound .some-mark) v vn u w;
+      way = w .walked .way;
       thrice = guided-thrice z (known z l v) (markPlace z l v) v u (d .0) (sound .both) (sound .joined) (mark-there z l (sound .joined) (sound .some-mark) v vn) vn un (wide z l (sound .joined) (sound .some-mark) v vn) w (d .1);
       from-near = λ t. w .cheapest (d .0) (d .1) (inl (or-left (near z l u v) (eqb u v) t));
-      to-landmark = λ t. w .cheapest (d .0) (d .1) (inr (ap placeOf (landmark-own z l v vn t))) }
+      to-landmark = λ t. w .cheapest (d .0) (d .1) (inr (ap placeOf (landmark-own z l v vn t)));
+    }
 
 -- ---- on a tree
 pub tree-cheapest : Tree-cheapest

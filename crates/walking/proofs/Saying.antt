@@ -33,7 +33,7 @@ unfolding travels journey
 travels-journey zero z posts card cost u = refl
 travels-journey (suc k) z posts card cost u =
     ap (cond (eqb u (card .place)) (Arrived cost))
-      (onward-like (travels k z posts card) (journey k z (saying posts card) (card .place)) z cost u (goes (posts u) card u) (λ c e. travels-journey k z posts card c e))
+    (onward-like (travels k z posts card) (journey k z (saying posts card) (card .place)) z cost u (goes (posts u) card u) (λ c e. travels-journey k z posts card c e))
 
 -- ---- what lines and hints say
 hint-says : (h : Hop) → asHint (hintOf h) ≡ h
@@ -72,20 +72,22 @@ module _ (z : Map) (l : Marks) (joined : Joined z) (v : ℕ) (vn : v < z .n) whe
 
   -- where v has no line as near one goes by the rest
   not-near : (u : ℕ) (h : Hop) → near z l u v ≡ false → asNear (findIn v (postOf z l u)) h ≡ h
-  not-near u h t = elim (cases-bool (onPost z l u v))
-      [ inl p ↦ far-says z l u v (findIn v (postOf z l u)) h (post-some z l u v vn p) t
-      | inr p ↦ ap (λ y. asNear y h) (post-none z l u v p) ]
+  not-near u h t = elim (cases-bool (onPost z l u v)) [
+    | inl p ↦ far-says z l u v (findIn v (postOf z l u)) h (post-some z l u v vn p) t
+    | inr p ↦ ap (λ y. asNear y h) (post-none z l u v p)
+  ]
 
   -- where it isn't near one goes as from the landmark, or as towards it
   rest : (u : ℕ) → mark < z .n → l mark ≡ true → u < z .n → cond (eqb u mark) (asHint (hintOf (hop z v mark))) (asLine (findIn mark (postOf z l u))) ≡ cond (eqb u mark) (hop z v mark) (hop z mark u)
-  rest u mn marked un = elim (cases-eq u mark)
-      [ inl e ↦ ap (λ h. cond (eqb u mark) h (asLine (findIn mark (postOf z l u)))) (hint-says (hop z v mark))
-          ∙ cond-true (eqb u mark) (hop z v mark) (asLine (findIn mark (postOf z l u))) (eq-eqb u mark e)
-          ∙ sym (cond-true (eqb u mark) (hop z v mark) (hop z mark u) (eq-eqb u mark e))
-      | inr ne ↦ (let w = next-there u mark un mn ne in
-                  cond-false (eqb u mark) (asHint (hintOf (hop z v mark))) (asLine (findIn mark (postOf z l u))) (ne-eqb u mark ne)
-                  ∙ line-says z l u mark (findIn mark (postOf z l u)) (w .0) (post-some z l u mark mn (post-has z l u mark ne (inl marked))) (w .1)
-                  ∙ sym (cond-false (eqb u mark) (hop z v mark) (hop z mark u) (ne-eqb u mark ne))) ]
+  rest u mn marked un = elim (cases-eq u mark) [
+    | inl e ↦ ap (λ h. cond (eqb u mark) h (asLine (findIn mark (postOf z l u)))) (hint-says (hop z v mark))
+        ∙ cond-true (eqb u mark) (hop z v mark) (asLine (findIn mark (postOf z l u))) (eq-eqb u mark e)
+        ∙ sym (cond-true (eqb u mark) (hop z v mark) (hop z mark u) (eq-eqb u mark e))
+    | inr ne ↦ (let w = next-there u mark un mn ne in
+        cond-false (eqb u mark) (asHint (hintOf (hop z v mark))) (asLine (findIn mark (postOf z l u))) (ne-eqb u mark ne)
+        ∙ line-says z l u mark (findIn mark (postOf z l u)) (w .0) (post-some z l u mark mn (post-has z l u mark ne (inl marked))) (w .1)
+        ∙ sym (cond-false (eqb u mark) (hop z v mark) (hop z mark u) (ne-eqb u mark ne)))
+  ]
 
   -- off v it comes to what is near
   known-off : (u : ℕ) → (u ≡ v → ⊥) → known z l v u ≡ near z l u v
@@ -95,10 +97,11 @@ module _ (z : Map) (l : Marks) (joined : Joined z) (v : ℕ) (vn : v < z .n) whe
   pub saying-rule : (u : ℕ) → mark < z .n → l mark ≡ true → u < z .n → (u ≡ v → ⊥) → saying (postsOf z l) (cardOf z l v) u ≡ ruleOf z (known z l v) mark v u
   saying-rule u mn marked un ne =
       let past : Hop = cond (eqb u mark) (asHint (hintOf (hop z v mark))) (asLine (findIn mark (postOf z l u))) in
-      elim (cases-bool (near z l u v))
-        [ inl t ↦ (let w = next-there u v un vn ne in
-                   near-says z l u v (findIn v (postOf z l u)) past (w .0) (post-some z l u v vn (post-has z l u v ne (inr t))) t (w .1)
-                   ∙ sym (cond-true (known z l v u) (hop z v u) (cond (eqb u mark) (hop z v mark) (hop z mark u)) (known-off u ne ∙ t)))
+      elim (cases-bool (near z l u v)) [
+        | inl t ↦ (let w = next-there u v un vn ne in
+            near-says z l u v (findIn v (postOf z l u)) past (w .0) (post-some z l u v vn (post-has z l u v ne (inr t))) t (w .1)
+            ∙ sym (cond-true (known z l v u) (hop z v u) (cond (eqb u mark) (hop z v mark) (hop z mark u)) (known-off u ne ∙ t)))
         | inr t ↦ not-near u past t
             ∙ rest u mn marked un
-            ∙ sym (cond-false (known z l v u) (hop z v u) (cond (eqb u mark) (hop z v mark) (hop z mark u)) (known-off u ne ∙ t)) ]
+            ∙ sym (cond-false (known z l v u) (hop z v u) (cond (eqb u mark) (hop z v mark) (hop z mark u)) (known-off u ne ∙ t))
+      ]

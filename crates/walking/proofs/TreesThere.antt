@@ -36,16 +36,23 @@ module _ (z : Map) (sides : ℕ → ℕ → ℕ → Bool) (h : treeBy z sides �
   bridge-by u w b =
       let p = and-parts (not (sides u w u)) (sides u w w && allBelow (z .n) (λ a. allBelow (z .n) (λ e. stays z u w (sides u w) a e))) b in
       let q = and-parts (sides u w w) (allBelow (z .n) (λ a. allBelow (z .n) (λ e. stays z u w (sides u w) a e))) (p .1) in
-      record { side = sides u w; hither = not-true (sides u w u) (p .0); thither = q .0;
+      record {
+        side = sides u w;
+        hither = not-true (sides u w u) (p .0);
+        thither = q .0;
         alone = λ a e an en pos.
-          let t = all-at (z .n) (λ e. stays z u w (sides u w) a e) (all-at (z .n) (λ a. allBelow (z .n) (λ e. stays z u w (sides u w) a e)) (q .1) a an) e en in
-          elim (or-cases (eqb (z .cost a e) 0) (sameBool (sides u w a) (sides u w e) || ((eqb a u && eqb e w) || (eqb a w && eqb e u))) t)
-            [ inl n ↦ absurd (no-road (z .cost a e) pos n)
-            | inr s ↦ elim (or-cases (sameBool (sides u w a) (sides u w e)) ((eqb a u && eqb e w) || (eqb a w && eqb e u)) s)
-                [ inl m ↦ inl (same-bool (sides u w a) (sides u w e) m)
-                | inr o ↦ inr (elim (or-cases (eqb a u && eqb e w) (eqb a w && eqb e u) o)
-                    [ inl x ↦ (let y = and-parts (eqb a u) (eqb e w) x in inl (eqb-true a u (y .0), eqb-true e w (y .1)))
-                    | inr x ↦ (let y = and-parts (eqb a w) (eqb e u) x in inr (eqb-true a w (y .0), eqb-true e u (y .1))) ]) ] ] }
+            let t = all-at (z .n) (λ e. stays z u w (sides u w) a e) (all-at (z .n) (λ a. allBelow (z .n) (λ e. stays z u w (sides u w) a e)) (q .1) a an) e en in
+            elim (or-cases (eqb (z .cost a e) 0) (sameBool (sides u w a) (sides u w e) || ((eqb a u && eqb e w) || (eqb a w && eqb e u))) t) [
+              | inl n ↦ absurd (no-road (z .cost a e) pos n)
+              | inr s ↦ elim (or-cases (sameBool (sides u w a) (sides u w e)) ((eqb a u && eqb e w) || (eqb a w && eqb e u)) s) [
+                | inl m ↦ inl (same-bool (sides u w a) (sides u w e) m)
+                | inr o ↦ inr (elim (or-cases (eqb a u && eqb e w) (eqb a w && eqb e u) o) [
+                  | inl x ↦ (let y = and-parts (eqb a u) (eqb e w) x in inl (eqb-true a u (y .0), eqb-true e w (y .1)))
+                  | inr x ↦ (let y = and-parts (eqb a w) (eqb e u) x in inr (eqb-true a w (y .0), eqb-true e u (y .1)))
+                ])
+              ]
+            ];
+      }
 
   tree-by : Tree z
   tree-by u w un wn pos =

@@ -8,13 +8,10 @@ use lib.Dec.{eqb, ltb}
 use Rattle.std.proofs.shelf.Tests.{cases-bool, cases-lt, ltb-true}
 use Rattle.ways.specs.Map.{Map, Hop, Nowhere, To}
 use Rattle.maps.specs.Arcs.{Meaning}
-use Rattle.posts.specs.Posts.{postOf}
 use Rattle.cards.specs.declared.kinds.Card.{Card}
-use Rattle.cards.specs.Cards.{cardOf}
-use Rattle.landmarks.specs.Landmarks.{Marks, Sound}
 use Rattle.walking.specs.Walks.{Posts, goes, asStep, stepOf, turnBy, onward, travels, walkOf, postsOf}
 use Rattle.walking.specs.General.{Inside}
-use Rattle.walking.specs.Promise.{Kept, Keeps}
+use Rattle.walking.specs.Promise.{Keeps}
 use Rattle.walking.specs.declared.kinds.Step.{Step}
 use Rattle.walking.specs.declared.kinds.Step.the-variants.{Here, On, Lost}
 use Rattle.walking.specs.declared.kinds.Turn.{Turn}
@@ -75,15 +72,17 @@ gone-cheap z cost u e c (On x) cheap h = omega (arith, gone-road u x e c (ltb 0 
 
 -- ---- posts that say the same at the places of the map lead the same way
 inside : (z : Map) → Meaning z → Inside z
-inside z means a e an pos = elim (cases-lt e (z .n))
-    [ inl l ↦ l
-    | inr l ↦ absurd (omega (arith, means .both a e, means .outside e a l)) ]
+inside z means a e an pos = elim (cases-lt e (z .n)) [
+  | inl l ↦ l
+  | inr l ↦ absurd (omega (arith, means .both a e, means .outside e a l))
+]
 
 same-onward : (f g : ℕ → ℕ → End) (z : Map) (cost u : ℕ) (h : Hop) → Inside z → u < z .n → ((c e : ℕ) → e < z .n → f c e ≡ g c e) → onward f z cost u h ≡ onward g z cost u h
 same-onward f g z cost u Nowhere ins un same = refl
-same-onward f g z cost u (To e) ins un same = elim (cases-bool (ltb 0 (z .cost u e)))
-    [ inl t ↦ ap (λ x. cond (ltb 0 (z .cost u e)) x (Stuck u)) (same (cost + z .cost u e) e (ins u e un (ltb-true 0 (z .cost u e) t)))
-    | inr t ↦ ap (λ b. cond b (f (cost + z .cost u e) e) (Stuck u)) t ∙ sym (ap (λ b. cond b (g (cost + z .cost u e) e) (Stuck u)) t) ]
+same-onward f g z cost u (To e) ins un same = elim (cases-bool (ltb 0 (z .cost u e))) [
+  | inl t ↦ ap (λ x. cond (ltb 0 (z .cost u e)) x (Stuck u)) (same (cost + z .cost u e) e (ins u e un (ltb-true 0 (z .cost u e) t)))
+  | inr t ↦ ap (λ b. cond b (f (cost + z .cost u e) e) (Stuck u)) t ∙ sym (ap (λ b. cond b (g (cost + z .cost u e) e) (Stuck u)) t)
+]
 
 same-posts : (k : ℕ) (z : Map) (posts posts′ : Posts) (card : Card) (cost u : ℕ) → Inside z → ((a : ℕ) → a < z .n → posts a ≡ posts′ a) → u < z .n
     → travels k z posts card cost u ≡ travels k z posts′ card cost u
@@ -92,14 +91,22 @@ same-posts zero z posts posts′ card cost u ins same un = refl
 same-posts (suc k) z posts posts′ card cost u ins same un =
     ap (λ x. cond (eqb u (card .place)) (Arrived cost) (onward (travels k z posts card) z cost u (goes x card u))) (same u un)
     ∙ ap (cond (eqb u (card .place)) (Arrived cost))
-        (same-onward (travels k z posts card) (travels k z posts′ card) z cost u (goes (posts′ u) card u) ins un
-          (λ c e en. same-posts k z posts posts′ card c e ins same en))
+    (same-onward (travels k z posts card) (travels k z posts′ card) z cost u (goes (posts′ u) card u) ins un
+    (λ c e en. same-posts k z posts posts′ card c e ins same en))
 
 -- ---- the promise for posts in memory
 pub keeps : (z : Map) (posts : Posts) (card : Card) (u : ℕ) (r : End) → Meaning z → r ≡ walkOf z posts card u → Keeps z posts card u r
 keeps z posts card u r means e l v sound un vn same own =
     let w = promise z l sound u v un vn in
     record {
-      cost = w .cost; roads = w .roads; away = w .away;
+      cost = w .cost;
+      roads = w .roads;
+      away = w .away;
       arrived = e ∙ same-posts (2 * z .n) z posts (postsOf z l) card 0 u (inside z means) same un ∙ ap (λ x. walkOf z (postsOf z l) x u) own ∙ w .arrives;
-      few = w .few; way = w .way; away-is = w .away-is; thrice = w .thrice; from-near = w .from-near; to-landmark = w .to-landmark }
+      few = w .few;
+      way = w .way;
+      away-is = w .away-is;
+      thrice = w .thrice;
+      from-near = w .from-near;
+      to-landmark = w .to-landmark;
+    }

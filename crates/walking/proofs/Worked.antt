@@ -12,12 +12,12 @@ use Rattle.landmarks.specs.Landmarks.{nearest}
 use Rattle.landmarks.proofs.Near.{lines-few}
 use Rattle.posts.specs.Posts.{linesOf}
 use Rattle.posts.proofs.Finding.{post-length}
-use Rattle.walking.specs.Walks.{travels}
+use Rattle.walking.specs.Walks.{travels, trail}
 use Rattle.walking.specs.SmallMaps.{Road, leads, priced, roadMap, flatRoads, flat, only}
-use Rattle.walking.specs.Cases.{passed, sameList, allHold, noneNear, Cases-hold, Landmarks-everywhere, Nine-places, Thrice}
+use Rattle.walking.specs.Cases.{sameList, allHold, noneNear, Cases-hold, Landmarks-everywhere, Nine-places, Thrice}
 
 pub cases-hold : Cases-hold
-unfolding within lowest firstOf nearest linesOf travels priced passed sameList allHold
+unfolding within lowest firstOf nearest linesOf travels trail priced sameList allHold
 cases-hold = refl
 
 pub landmarks-everywhere : Landmarks-everywhere
@@ -48,6 +48,15 @@ road-map-both n rs a e = priced-both rs a e
 pub thrice-reached : Thrice
 unfolding within lowest firstOf nearest linesOf travels priced allBelow
 thrice-reached = record {
-    z = flat; l = only 0; u = 2; v = 1; away = 1;
-    sound = record { both = road-map-both 3 flatRoads; joined = hanging-together flat (road-map-both 3 flatRoads) (omega arith) .0 refl; some-mark = (0, omega arith, refl) };
-    u-there = omega arith; v-there = omega arith; away-is = refl; some = omega arith; reached = refl }
+  z = flat;
+  l = only 0;
+  u = 2;
+  v = 1;
+  away = 1;
+  sound = record { both = road-map-both 3 flatRoads; joined = hanging-together flat (road-map-both 3 flatRoads) (omega arith) .0 refl; some-mark = (0, omega arith, refl) };
+  u-there = omega arith;
+  v-there = omega arith;
+  away-is = refl;
+  some = omega arith;
+  reached = refl;
+}

@@ -1,31 +1,21 @@
 -- Worked cases: what is near, hinted, passed and paid on small maps with their landmarks. Assumes nothing.
 use mathlib.Core.Path.{_≡_}
-use mathlib.Core.Bool.{Bool, true, false, cond, _&&_, not}
+use mathlib.Core.Bool.{Bool, true, false, _&&_, not}
 use mathlib.Core.List.{List, [], _∷_}
-use Prim.Native.Nat.{ℕ, zero, suc, _*_, _<_, _≤_}
+use Prim.Native.Nat.{ℕ, _*_, _<_, _≤_}
 use lib.Dec.{eqb}
 use lib.ListN.{length}
-use Rattle.ways.specs.Map.{Map, Far, At, far, sameFar, Hop, Nowhere, To}
+use Rattle.ways.specs.Map.{Map, Far, At, far, sameFar}
 use Rattle.ways.specs.Ways.{allBelow}
 use Rattle.landmarks.specs.Landmarks.{Marks, near, Sound}
 use Rattle.posts.specs.declared.kinds.Line.{Line}
 use Rattle.posts.specs.Posts.{postOf}
-use Rattle.cards.specs.declared.kinds.Card.{Card}
 use Rattle.cards.specs.Cards.{hintNumber, cardOf}
-use Rattle.walking.specs.Walks.{Posts, goes, walkOf, postsOf}
+use Rattle.walking.specs.Walks.{walkOf, trailOf, postsOf}
 use Rattle.walking.specs.Trees.{Tree}
 use Rattle.walking.specs.SmallMaps.{row, star, triangle, flat, only, every}
 use Rattle.walking.specs.declared.kinds.End.{End}
 use Rattle.walking.specs.declared.kinds.End.the-variants.{Arrived, Stuck, Worn}
-
--- ---- the places that one passes after u, up to the last
-abbrev pub passing : (ℕ → List ℕ) → Hop → List ℕ
-passing f Nowhere = []
-passing f (To e) = e ∷ f e
-
-unfoldable pub passed : ℕ → Posts → Card → ℕ → List ℕ
-passed zero posts card u = []
-passed (suc k) posts card u = cond (eqb u (card .place)) [] (passing (passed k posts card) (goes (posts u) card u))
 
 -- ---- a case, and whether it holds
 pub record Case : Type 0 where
@@ -60,7 +50,7 @@ holds c =
     sameBool (near (c .map) (c .marks) (c .from) (c .to)) (c .isNear)
     && sameFar (far (c .map) (c .to) (c .from)) (At (c .away))
     && eqb (hintNumber (cardOf (c .map) (c .marks) (c .to) .hint)) (c .hint)
-    && sameList (passed (2 * c .map .n) (postsOf (c .map) (c .marks)) (cardOf (c .map) (c .marks) (c .to)) (c .from)) (c .by)
+    && sameList (trailOf (c .map) (postsOf (c .map) (c .marks)) (cardOf (c .map) (c .marks) (c .to)) (c .from)) (c .by)
     && arrivedAt (walkOf (c .map) (postsOf (c .map) (c .marks)) (cardOf (c .map) (c .marks) (c .to)) (c .from)) (At (c .cost))
 
 unfoldable pub allHold : List Case → Bool
@@ -71,17 +61,17 @@ allHold (c ∷ cs) = holds c && allHold cs
 abbrev pub cases : List Case
 cases =
     record { map = row; marks = only 0; from = 0; to = 3; isNear = false; away = 3; hint = 1; by = 1 ∷ 2 ∷ 3 ∷ []; cost = 3 }
-  ∷ record { map = row; marks = only 0; from = 1; to = 3; isNear = true; away = 2; hint = 1; by = 2 ∷ 3 ∷ []; cost = 2 }
-  ∷ record { map = row; marks = only 0; from = 2; to = 3; isNear = true; away = 1; hint = 1; by = 3 ∷ []; cost = 1 }
-  ∷ record { map = row; marks = only 0; from = 4; to = 3; isNear = true; away = 1; hint = 1; by = 3 ∷ []; cost = 1 }
-  ∷ record { map = row; marks = only 0; from = 4; to = 1; isNear = false; away = 3; hint = 1; by = 3 ∷ 2 ∷ 1 ∷ []; cost = 3 }
-  ∷ record { map = star; marks = only 1; from = 2; to = 3; isNear = false; away = 2; hint = 0; by = 0 ∷ 3 ∷ []; cost = 2 }
-  ∷ record { map = star; marks = only 1; from = 0; to = 3; isNear = true; away = 1; hint = 0; by = 3 ∷ []; cost = 1 }
-  ∷ record { map = triangle; marks = only 0; from = 1; to = 2; isNear = false; away = 3; hint = 2; by = 0 ∷ 2 ∷ []; cost = 4 }
-  ∷ record { map = flat; marks = only 0; from = 2; to = 1; isNear = false; away = 1; hint = 1; by = 0 ∷ 1 ∷ []; cost = 3 }
-  ∷ record { map = row; marks = every; from = 4; to = 1; isNear = false; away = 3; hint = 65535; by = 3 ∷ 2 ∷ 1 ∷ []; cost = 3 }
-  ∷ record { map = triangle; marks = every; from = 1; to = 2; isNear = false; away = 3; hint = 65535; by = 2 ∷ []; cost = 3 }
-  ∷ []
+    ∷ record { map = row; marks = only 0; from = 1; to = 3; isNear = true; away = 2; hint = 1; by = 2 ∷ 3 ∷ []; cost = 2 }
+    ∷ record { map = row; marks = only 0; from = 2; to = 3; isNear = true; away = 1; hint = 1; by = 3 ∷ []; cost = 1 }
+    ∷ record { map = row; marks = only 0; from = 4; to = 3; isNear = true; away = 1; hint = 1; by = 3 ∷ []; cost = 1 }
+    ∷ record { map = row; marks = only 0; from = 4; to = 1; isNear = false; away = 3; hint = 1; by = 3 ∷ 2 ∷ 1 ∷ []; cost = 3 }
+    ∷ record { map = star; marks = only 1; from = 2; to = 3; isNear = false; away = 2; hint = 0; by = 0 ∷ 3 ∷ []; cost = 2 }
+    ∷ record { map = star; marks = only 1; from = 0; to = 3; isNear = true; away = 1; hint = 0; by = 3 ∷ []; cost = 1 }
+    ∷ record { map = triangle; marks = only 0; from = 1; to = 2; isNear = false; away = 3; hint = 2; by = 0 ∷ 2 ∷ []; cost = 4 }
+    ∷ record { map = flat; marks = only 0; from = 2; to = 1; isNear = false; away = 1; hint = 1; by = 0 ∷ 1 ∷ []; cost = 3 }
+    ∷ record { map = row; marks = every; from = 4; to = 1; isNear = false; away = 3; hint = 65535; by = 3 ∷ 2 ∷ 1 ∷ []; cost = 3 }
+    ∷ record { map = triangle; marks = every; from = 1; to = 2; isNear = false; away = 3; hint = 65535; by = 2 ∷ []; cost = 3 }
+    ∷ []
 
 abbrev pub Cases-hold : Type 0
 Cases-hold = allHold cases ≡ true
@@ -95,8 +85,8 @@ noneNear (x ∷ xs) = not (x .near) && noneNear xs
 abbrev pub everywhere : Map → Bool
 everywhere z =
     allBelow (z .n) (λ u.
-      noneNear (postOf z every u)
-      && allBelow (z .n) (λ v. not (near z every u v) && arrivedAt (walkOf z (postsOf z every) (cardOf z every v) u) (far z v u)))
+    noneNear (postOf z every u)
+    && allBelow (z .n) (λ v. not (near z every u v) && arrivedAt (walkOf z (postsOf z every) (cardOf z every v) u) (far z v u)))
 
 abbrev pub Landmarks-everywhere : Type 0
 Landmarks-everywhere = (everywhere row && everywhere triangle) ≡ true

@@ -1,6 +1,7 @@
 -- The promise of the whole: by the posts and the card of a map everybody arrives, and at which cost. Assumes nothing.
 use mathlib.Core.Path.{_≡_}
 use mathlib.Core.Bool.{true}
+use mathlib.Core.List.{List, [], _∷_}
 use Prim.Native.Nat.{ℕ, _+_, _*_, _<_, _≤_}
 use Rattle.ways.specs.Map.{Map, At, far}
 use Rattle.ways.specs.Ways.{Route}
@@ -8,7 +9,7 @@ use Rattle.landmarks.specs.Landmarks.{Marks, near, Sound}
 use Rattle.posts.specs.Posts.{postOf}
 use Rattle.cards.specs.Cards.{cardOf}
 use Rattle.cards.specs.declared.kinds.Card.{Card}
-use Rattle.walking.specs.Walks.{Posts, walkOf, travels, postsOf}
+use Rattle.walking.specs.Walks.{Posts, walkOf, travels, trailOf, postsOf}
 use Rattle.walking.specs.General.{saying, Leads, Inside}
 use Rattle.walking.specs.declared.kinds.End.{End}
 use Rattle.walking.specs.declared.kinds.End.the-variants.{Arrived}
@@ -59,3 +60,12 @@ pub record Kept (z : Map) (l : Marks) (u v : ℕ) (r : End) : Type 0 where
 abbrev pub Keeps : Map → Posts → Card → ℕ → End → Type 0
 Keeps z posts card u r =
     (l : Marks) (v : ℕ) → Sound z l → u < z .n → v < z .n → ((a : ℕ) → a < z .n → posts a ≡ postOf z l a) → card ≡ cardOf z l v → Kept z l u v r
+
+-- From u by the places of a list, one after the other, one comes to v; there is a road from each to the next, and the roads cost c in all.
+pub data Along (z : Map) (v : ℕ) : ℕ → ℕ → List ℕ → Type 0 where
+  here : Along z v v 0 []
+  by : (u e c : ℕ) (xs : List ℕ) → 0 < z .cost u e → Along z v e c xs → Along z v u (z .cost u e + c) (e ∷ xs)
+
+-- If r is an arrival, the places to which one came lead from u to the place of the card at just that cost, by whatever posts.
+abbrev pub Passes : Map → Posts → Card → ℕ → End → Type 0
+Passes z posts card u r = (c : ℕ) → r ≡ Arrived c → Along z (card .place) u c (trailOf z posts card u)

@@ -6,9 +6,9 @@
 --   stepOf    the step of a walker at u: he has arrived, or goes on
 --   turnBy    what comes of a step at u on a map, after roads of some cost
 --   travels   how a walk ends that may go so many roads more, from u, after roads of some cost
-use mathlib.Core.Path.{_≡_}
-use mathlib.Core.Bool.{Bool, true, false, cond}
-use mathlib.Core.List.{List, [], map}
+--   trail     the places to which one comes on such a walk after u, in their order
+use mathlib.Core.Bool.{cond}
+use mathlib.Core.List.{List, [], _∷_, map}
 use Prim.Native.Nat.{ℕ, zero, suc, _+_, _*_}
 use lib.Dec.{eqb, ltb}
 use lib.ListN.{getD}
@@ -95,3 +95,15 @@ walkOf z posts card u = travels (2 * z .n) z posts card 0 u
 -- the posts of a map and its landmarks
 abbrev pub postsOf : Map → Marks → Posts
 postsOf z l u = postOf z l u
+
+-- the places to which one comes, the last one too if one is worn out there
+abbrev pub comes : (ℕ → List ℕ) → Turn → List ℕ
+comes f (Gone e c) = e ∷ f e
+comes f (Over r) = []
+
+unfoldable pub trail : ℕ → Map → Posts → Card → ℕ → List ℕ
+trail zero z posts card u = []
+trail (suc k) z posts card u = comes (trail k z posts card) (turnBy z 0 u (stepOf (posts u) card u))
+
+abbrev pub trailOf : Map → Posts → Card → ℕ → List ℕ
+trailOf z posts card u = trail (2 * z .n) z posts card u

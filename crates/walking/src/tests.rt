@@ -2,6 +2,7 @@
 use super::kinds::End;
 use super::kinds::EndDebug;
 use super::kinds::EndPartialEq;
+use super::noting::walk_noting;
 use super::walks::walk;
 use cards::kinds::Card;
 use cards::kinds::Hint;
@@ -15,23 +16,30 @@ use posts::kinds::Post;
 use std::alloc::Global;
 use std::test::*;
 
+fn road(from: u16, to: u16) -> Road {
+    Road { from, to, cost: 1 }
+}
+
 // Places 0 to 4 in a row, each road of cost 1.
 fn row(heap: Global) -> Result<RoadMapBuf, Fault> {
-    let roads = [
-        Road { from: 0, to: 1, cost: 1 },
-        Road { from: 1, to: 2, cost: 1 },
-        Road { from: 2, to: 3, cost: 1 },
-        Road { from: 3, to: 4, cost: 1 },
-    ];
+    let roads = [road(0, 1), road(1, 2), road(2, 3), road(3, 4)];
     RoadMapBuf::new(heap, 5, roads.to_vec(heap)?)
 }
 
 fn near(place: u16, next: u16) -> Line {
-    Line { place, next, near: true }
+    Line {
+        place,
+        next,
+        near: true,
+    }
 }
 
 fn mark(place: u16, next: u16) -> Line {
-    Line { place, next, near: false }
+    Line {
+        place,
+        next,
+        near: false,
+    }
 }
 
 fn post(lines: &[Line]) -> Post {
@@ -54,7 +62,11 @@ fn posts() -> [Post; 5] {
 }
 
 fn card(place: u16) -> Card {
-    Card { place, landmark: 0, hint: Hint::Next(1) }
+    Card {
+        place,
+        landmark: 0,
+        hint: Hint::Next(1),
+    }
 }
 
 #[test]
@@ -80,4 +92,13 @@ fn two_posts_point_at_each_other(rt: LibcRuntime) -> Result<(), Fail> {
     let wrong = [post(&[near(3, 1)]), post(&[near(3, 0)])];
     check_eq(walk(&map.map(), &wrong, card(3), 0), End::Worn)?;
     check_eq(End::Worn.number(), 2)
+}
+
+#[test]
+fn the_places_passed(rt: LibcRuntime) -> Result<(), Fail> {
+    let map = row(rt.alloc())?;
+    let mut passed = Vec::new(rt.alloc());
+    let end = walk_noting(&map.map(), &posts(), card(3), 0, &mut passed)?;
+    check_eq(end, End::Arrived(3))?;
+    check_eq(passed.as_slice(), &[1, 2, 3])
 }

@@ -13,7 +13,7 @@ use posts::kinds::Post;
 
 impl Walker {
     /// One turn of a walk that has cost so much: the step by the posts, and the road of the map that it takes.
-    fn turn(self, map: &RoadMap<'_>, posts: &[Post], cost: u32) -> Turn
+    pub(crate) fn turn(self, map: &RoadMap<'_>, posts: &[Post], cost: u32) -> Turn
         ensures { λ r. ⌜ r ≡ turnBy (chart (now (map .entry))) cost (self .at) (stepOf (postsIn (now (posts .entry)) (self .at)) (self .card) (self .at)) ⌝ }
     {
         match self.step_among(posts) {

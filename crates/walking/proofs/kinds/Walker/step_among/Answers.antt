@@ -1,3 +1,4 @@
+-- A step among posts is a step at the post that stands there. Assumes nothing.
 use mathlib.Core.Path.{ap, _∙_}
 use Rattle.walking.specs.Walks.{stepOf}
 use Rattle.walking.proofs.Among.{post-here, no-post}
