@@ -1,3 +1,4 @@
 pub mod Finding
-pub mod Posting
+pub mod LineByLine
 pub mod Rising
+pub mod Turns

@@ -1,2 +1,3 @@
 pub mod Posts
 pub mod Pushing
+pub mod Posting
