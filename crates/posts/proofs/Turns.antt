@@ -1,15 +1,21 @@
 -- One turn of making a post. Assumes nothing.
 use mathlib.Core.Bool.{Bool, cond, false, true, _&&_}
-use mathlib.Core.List.{List, [], _∷_, _++_}
+use mathlib.Core.List.{List, [], _∷_, _++_, map}
+use mathlib.Core.Logic.{inl, inr}
 use mathlib.Core.Path.{_∙_, _≡_, ap, subst, sym}
 use Prim.Native.Nat.{ℕ, suc, zero, _+_, _-_, _<_, _≤_}
 use lib.Dec.{ltb}
-use lib.ListN.{length}
+use lib.ListN.{getD, length}
 use native.Mathlib.Omega.{arith}
-use Rattle.std.proofs.shelf.Tests.{and-from, lt-ltb}
+use Rattle.std.proofs.shelf.Tests.{and-from, cases-eq, lt-ltb}
+use Rattle.std.proofs.shelf.Lists.{getD-append-left, getD-push, length-map, map-push}
 use Rattle.landmarks.specs.Landmarks.{Marks, lineCount, onPost}
 use Rattle.posts.proofs.LineByLine.{lines-below, lines-count, lines-off, lines-on}
-use Rattle.posts.specs.Posts.{lineOf, linesOf, placeAt}
+use Rattle.maps.specs.declared.kinds.Fault.{Fault}
+use Rattle.maps.specs.declared.kinds.Fault.the-variants.{Apart, Cost, Form, Memory, Order as Unordered, Plan, Range, Room, Same}
+use Rattle.posts.specs.Posting.{Posted, PostedAll}
+use Rattle.posts.specs.Posts.{lineOf, linesOf, placeAt, told}
+use Rattle.posts.specs.declared.kinds.Post.{Post}
 use Rattle.posts.specs.Pushing.{Pushed}
 use Rattle.posts.specs.declared.kinds.Line.{Line}
 use Rattle.posts.specs.declared.kinds.Refused.{Refused}
@@ -58,3 +64,27 @@ module _ (z : Map) (l : Marks) (u v : ℕ) (vn : v < z .n) (p : List Line) (inv 
 
   pub turn-off : onPost z l u v ≡ false → p ≡ linesOf z l u 0 (v + 1)
   turn-off t = inv ∙ sym (lines-off z l u v t)
+
+-- ---- all posts, one after the other
+all-err : (z : Map) (l : Marks) (u : ℕ) (f : Fault) → u < z .n → Posted z l u (Err f) → PostedAll z l (Err f)
+all-err z l u Range un h = omega arith
+all-err z l u Room un h = (u, h .0, h .1)
+all-err z l u Form un h = h
+all-err z l u Unordered un h = h
+all-err z l u Cost un h = h
+all-err z l u Apart un h = h
+all-err z l u Plan un h = h
+all-err z l u Same un h = h
+all-err z l u Memory un h = absurd h
+
+pub all-refused : (z : Map) (l : Marks) (u : ℕ) (r : Result Post Fault) (f : Fault) → u < z .n → r ≡ Err f → Posted z l u r → PostedAll z l (Err f)
+all-refused z l u r f un e h = all-err z l u f un (subst (λ (y : Result Post Fault). Posted z l u y) e h)
+
+pub all-more : (old new : List Post) (p : Post) (u : ℕ) (value : ℕ → List Line) → length old ≡ u → new ≡ old ++ p ∷ [] → told p ≡ value u
+    → ((w : ℕ) → w < u → getD (map told old) w [] ≡ value w) → (w : ℕ) → w < u + 1 → getD (map told new) w [] ≡ value w
+all-more old new p u value long e is before w h =
+    let long′ : length (map told old) ≡ u = length-map old told ∙ long in
+    ap (λ (xs : List Post). getD (map told xs) w []) e ∙ ap (λ (xs : List (List Line)). getD xs w []) (map-push told old p)
+    ∙ elim (cases-eq w u)
+      [ inl s ↦ getD-push (map told old) (told p) [] w (long′ ∙ sym s) ∙ is ∙ ap value (sym s)
+      | inr s ↦ getD-append-left (map told old) (told p ∷ []) [] w (omega (arith, long′)) ∙ before w (omega arith) ]

@@ -3,11 +3,13 @@ ghost use mathlib.Core.Path.{_≡_};
 ghost use Rattle.landmarks.specs.Lands.{mapIn, marksOf};
 ghost use Prim.Native.Nat.{_<_};
 ghost use Rattle.posts.specs.Posts.{lineOf};
-ghost use Rattle.posts.specs.Posting.{Posted};
+ghost use Rattle.posts.specs.Posting.{Posted, PostedAll};
 use super::kinds::Line;
 use super::kinds::Post;
 use landmarks::land::Land;
+use maps::faults::FaultFromRefused;
 use maps::kinds::Fault;
+use std::alloc::Global;
 
 // The line for place `v` on the post at `u`.
 fn line_of(land: &Land, u: usize, v: u16) -> Line
@@ -44,4 +46,20 @@ pub fn post_of(land: &Land, u: usize) -> Result<Post, Fault>
         }
     }
     Ok(post)
+}
+
+/// The posts of all places, that of place 0 first. Takes n times as long as one.
+/// Refuses with Room where a post would have more than 255 lines.
+pub fn posts_of(heap: Global, land: &Land) -> Result<Vec<Post>, Fault>
+    ensures { λ r. ⌜ PostedAll (mapIn (now (land .entry))) (marksOf (now (land .entry))) r ⌝ }
+{
+    let n = land.survey().map().len();
+    let mut posts = Vec::new(heap);
+    for u in 0..n {
+        match post_of(land, u as usize) {
+            Ok(post) => posts.push(post)?,
+            Err(fault) => return Err(fault),
+        }
+    }
+    Ok(posts)
 }
