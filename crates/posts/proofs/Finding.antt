@@ -69,7 +69,7 @@ module _ (z : Map) (l : Marks) (u : ℕ) where
   unfolding linesOf
   no-line a = refl
 
-  lines-length : (k a m : ℕ) → a + k ≡ m → length (linesOf z l u a k) + countBelow a (onPost z l u) ≡ countBelow m (onPost z l u)
+  pub lines-length : (k a m : ℕ) → a + k ≡ m → length (linesOf z l u a k) + countBelow a (onPost z l u) ≡ countBelow m (onPost z l u)
   lines-length zero a m e = let s : a ≡ m = omega arith in omega (arith, no-line a, ap (λ x. countBelow x (onPost z l u)) s)
   lines-length (suc k) a m e = omega (arith, one-line a k, count-next a (onPost z l u), lines-length k (a + 1) m (omega arith))
 

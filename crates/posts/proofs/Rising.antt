@@ -3,7 +3,7 @@ use mathlib.Core.Path.{_≡_, refl, ap, _∙_}
 use mathlib.Core.Bool.{false}
 use mathlib.Core.List.{List, [], _∷_}
 use mathlib.Core.Logic.{inl, inr}
-use Prim.Native.Nat.{ℕ, zero, suc, _+_, _-_, _<_}
+use Prim.Native.Nat.{ℕ, zero, suc, _+_, _-_, _<_, _≤_}
 use native.Mathlib.Numerals.{add-one}
 use native.Mathlib.Omega.{arith}
 use lib.Dec.{eqb}
@@ -34,6 +34,15 @@ rising-below p (suc j) i ij jn = elim (cases-eq i j) [
   | inr ne ↦ omega (arith, rising-below p j i (omega arith) (omega arith), rising-next p j jn)
 ]
 
+-- the same of the lines as others see them
+pub told-rising : (p : Post) (k : ℕ) → k + 1 < length (told p) → placeAt (told p) k < placeAt (told p) (k + 1)
+told-rising p k h =
+    let g : k + 1 < p .count = omega (arith, told-length p) in
+    omega (arith, told-at p k (omega arith), told-at p (k + 1) g, p .rising k g)
+
+pub told-few : (p : Post) → length (told p) ≤ 255
+told-few p = omega (arith, told-length p)
+
 -- what is above the last place is above all
 pub last-below : (p : Post) (q : ℕ) → (0 < p .count → placeAt (p .lines) (p .count - 1) < q) → (k : ℕ) → k < length (told p) → placeAt (told p) k < q
 last-below p q last k h =
@@ -43,7 +52,7 @@ last-below p q last k h =
       | inr ne ↦ omega (arith, told-at p k g, last (omega arith), rising-below p (p .count - 1) k (omega arith) (omega arith))
     ]
 
--- the line at i, where other earlier one is for that place
+-- the line at i, where no earlier one is for that place
 find-first : (q : ℕ) (xs : List Line) (i : ℕ) → i < length xs → ((k : ℕ) → k < i → placeAt xs k ≡ q → ⊥) → placeAt xs i ≡ q → findIn q xs ≡ Some (getD xs i blank)
 find-first q [] i h other e = absurd (omega arith)
 find-first q (x ∷ xs) zero h other e = cond-true (eqb (x .place) q) (Some x) (findIn q xs) (eq-eqb (x .place) q e)

@@ -28,7 +28,7 @@ impl Post {
     pub fn len(&self) -> usize
         ensures { λ r. ⌜ r ≡ length (told (now (self .entry))) ⌝ }
     {
-        self.count
+        self.lines().len()
     }
 
     /// Its lines, lent, in constant time; it refuses nothing.
