@@ -47,7 +47,7 @@ impl Walker {
         }
     }
 
-    /// The step where no post stands, which is the step at a post without lines.
+    /// The step where no post stands, which is the step at a post without lines. Takes constant time and refuses nothing.
     pub fn step_without_post(self) -> Step
         ensures { λ r. ⌜ r ≡ stepOf [] (self .card) (self .at) ⌝ }
     {
@@ -61,6 +61,7 @@ impl Walker {
     }
 
     /// The step by the post at which the walker stands. The posts stand in the order of their places; beyond them there are none.
+    /// Takes as long as `step`, and refuses nothing.
     pub fn step_among(self, posts: &[Post]) -> Step
         ensures { λ r. ⌜ r ≡ stepOf (postsIn (now (posts .entry)) (self .at)) (self .card) (self .at) ⌝ }
     {

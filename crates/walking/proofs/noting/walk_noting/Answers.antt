@@ -21,13 +21,13 @@ returns-in-Over c =
     let posts = postsIn (c .args .posts .now) in
     let m = 2 * c .args .map .now .n in
     let e : c .in-Over .end ≡ walkOf z posts (c .args .card) (c .args .from) =
-    turn-over z posts (c .args .card) m (c .loop-i .-i) (c .loop-i .cost) (c .loop-i .at) (c .loop-i-test .taken) (c .in-Over .end) (c .in-Over .ensures tt) ∙ c .loop-i .inv .0 in
+    turn-over z posts (c .args .card) m (c .loop-i .-i) (c .loop-i .cost) (c .loop-i .at) (omega (arith, c .loop-i-test .taken)) (c .in-Over .end) (c .in-Over .ensures tt) ∙ c .loop-i .inv .0 in
     record {
       end = e;
       promise = keeps z posts (c .args .card) (c .args .from) (c .in-Over .end) (view-means (c .args .map .now)) e;
       way = passes z posts (c .args .card) (c .args .from) (c .in-Over .end) e;
       passed =
-          trail-over z posts (c .args .card) m (c .loop-i .-i) (c .loop-i .cost) (c .loop-i .at) (vec-items (c .loop-i .passed)) (c .loop-i-test .taken) (c .in-Over .end) (c .in-Over .ensures tt)
+          trail-over z posts (c .args .card) m (c .loop-i .-i) (c .loop-i .cost) (c .loop-i .at) (vec-items (c .loop-i .passed)) (omega (arith, c .loop-i-test .taken)) (c .in-Over .end) (c .in-Over .ensures tt)
           ∙ c .loop-i .inv .2
           ∙ ap (λ xs. xs ++ trailOf z posts (c .args .card) (c .args .from)) (c .reserve .ensures .items);
     }
@@ -37,10 +37,10 @@ loop-i-again c =
     let z = chart (c .args .map .now) in
     let posts = postsIn (c .args .posts .now) in
     let m = 2 * c .args .map .now .n in (
-      turn-gone z posts (c .args .card) m (c .loop-i .-i) (c .loop-i .cost) (c .loop-i .at) (c .loop-i-test .taken) (c .in-Gone .place) (c .in-Gone .toll) (c .in-Gone .ensures tt) ∙ c .loop-i .inv .0,
+      turn-gone z posts (c .args .card) m (c .loop-i .-i) (c .loop-i .cost) (c .loop-i .at) (omega (arith, c .loop-i-test .taken)) (c .in-Gone .place) (c .in-Gone .toll) (c .in-Gone .ensures tt) ∙ c .loop-i .inv .0,
       omega (arith, c .loop-i .inv .1, gone-cheap (chart (c .args .map .now)) (c .loop-i .cost) (c .loop-i .at) (c .in-Gone .place) (c .in-Gone .toll) (stepOf (postsIn (c .args .posts .now) (c .loop-i .at)) (c .args .card) (c .loop-i .at)) (view-means (c .args .map .now) .cheap) (c .in-Gone .ensures tt)),
       ap (λ xs. xs ++ trail (m - (c .loop-i .-i + 1)) z posts (c .args .card) (c .in-Gone .place)) (c .push-reserved .ensures .items)
-          ∙ trail-gone z posts (c .args .card) m (c .loop-i .-i) (c .loop-i .cost) (c .loop-i .at) (vec-items (c .loop-i .passed)) (c .loop-i-test .taken) (c .in-Gone .place) (c .in-Gone .toll) (c .in-Gone .ensures tt)
+          ∙ trail-gone z posts (c .args .card) m (c .loop-i .-i) (c .loop-i .cost) (c .loop-i .at) (vec-items (c .loop-i .passed)) (omega (arith, c .loop-i-test .taken)) (c .in-Gone .place) (c .in-Gone .toll) (c .in-Gone .ensures tt)
           ∙ c .loop-i .inv .2,
       omega (arith, c .loop-i .inv .3, c .push-reserved .ensures .len, c .push-reserved .ensures .capacity, c .loop-i-test .taken),
     )
