@@ -2,7 +2,7 @@
 
 use crate::program::Answer;
 use crate::report::Difference;
-use oracle::faults::Refusal;
+use std::fmt::Display;
 
 /// What is expected of a program.
 pub enum Expected {
@@ -13,8 +13,9 @@ pub enum Expected {
 }
 
 impl Expected {
-    /// What the oracle answers in the place of the program `name`.
-    pub fn of(name: &str, answer: Result<String, Refusal>) -> Expected {
+    /// What the oracle answers in the place of the program `name`; a refusal shows the part of it
+    /// that the program has to say alike.
+    pub fn of(name: &str, answer: Result<String, impl Display>) -> Expected {
         match answer {
             Ok(text) => Expected::Says(text),
             Err(refusal) => Expected::Refuses(format!("{name}: {refusal}: ")),

@@ -21,6 +21,8 @@ pub struct Difference {
 pub struct Report {
     documents: usize,
     compared: usize,
+    /// How many walks are in the answers, where a group has walks.
+    walks: Option<usize>,
     differences: Vec<Difference>,
 }
 
@@ -38,6 +40,12 @@ impl Report {
         report
     }
 
+    /// The report with the number of walks that are in the answers.
+    pub fn with_walks(mut self, walks: usize) -> Report {
+        self.walks = Some(walks);
+        self
+    }
+
     pub fn compared(&self) -> usize {
         self.compared
     }
@@ -50,11 +58,11 @@ impl Report {
 impl fmt::Display for Report {
     fn fmt(&self, out: &mut fmt::Formatter<'_>) -> fmt::Result {
         let (documents, compared) = (self.documents, self.compared);
-        write!(
-            out,
-            "{documents} inputs, {compared} answers, {} different",
-            self.different()
-        )?;
+        write!(out, "{documents} inputs, {compared} answers")?;
+        if let Some(walks) = self.walks {
+            write!(out, " with {walks} walks")?;
+        }
+        write!(out, ", {} different", self.different())?;
         for (index, difference) in self.differences.iter().take(SHOWN).enumerate() {
             write!(out, "\n  {}\n", difference.title)?;
             write!(
