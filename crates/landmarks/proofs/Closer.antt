@@ -66,6 +66,7 @@ or-takes (Is m (At a)) k q = elim (cases-bool (ltb q a)) [ inl t ↦ (k, q, rw t
 -- it was there before, or it is the new one, which is then closer than the old one was
 pub or-is : (M : Mark) (k : ℕ) (f : Far) (m : ℕ) (g : Far) → orCloser M k f ≡ Is m g → (M ≡ Is m g) ⊎ ((k ≡ m) × (f ≡ g) × ((i : ℕ) (a : Far) → M ≡ Is i a → closer f a ≡ true))
 or-is NoMark k f m g h = inr (cc, cc, λ i a e. absurd (let x : _≡_ {A = ℕ} 0 1 = cc in omega arith))
-or-is (Is n a) k f m g h = elim (cases-bool (closer f a))
-    [ inl t ↦ (let e : Is k f ≡ Is m g = rw t at h in inr (cc, cc, λ i b s. let x : a ≡ b = cc in rw x at t))
-    | inr t ↦ inl (rw t at h) ]
+or-is (Is n a) k f m g h = elim (cases-bool (closer f a)) [
+  | inl t ↦ (let e : Is k f ≡ Is m g = rw t at h in inr (cc, cc, λ i b s. let x : a ≡ b = cc in rw x at t))
+  | inr t ↦ inl (rw t at h)
+]

@@ -77,7 +77,7 @@ module _ (z : Map) (l : Marks) (u : ℕ) where
   pub post-has : (v : ℕ) → (u ≡ v → ⊥) → (l v ≡ true) ⊎ (near z l u v ≡ true) → onPost z l u v ≡ true
   post-has v ne why =
       and-from (not (eqb v u)) (l v || near z l u v) (not-from-false (eqb v u) (ne-eqb v u (λ e. ne (sym e))))
-        (elim why [ inl t ↦ or-left (l v) (near z l u v) t | inr t ↦ or-right (l v) (near z l u v) t ])
+      (elim why [ inl t ↦ or-left (l v) (near z l u v) t | inr t ↦ or-right (l v) (near z l u v) t ])
 
   pub post-lacks : (v : ℕ) → l v ≡ false → near z l u v ≡ false → onPost z l u v ≡ false
   post-lacks v t s = and-right (not (eqb v u)) (l v || near z l u v) (or-from (l v) (near z l u v) t s)

@@ -58,11 +58,13 @@ nomark-none z l v zero h j lt = absurd (omega arith)
 nomark-none z l v (suc k) h j lt =
     let s : suc k ≡ k + 1 = omega arith in
     let g : nearest z l v (k + 1) ≡ NoMark = ap (nearest z l v) (sym s) ∙ h in
-    elim (cases-bool (l k))
-      [ inl t ↦ absurd (or-some (nearest z l v k) k (far z v k) (sym (nearest-more z l v k t) ∙ g))
-      | inr t ↦ elim (cases-eq j k)
-          [ inl e ↦ ap l e ∙ t
-          | inr e ↦ nomark-none z l v k (sym (nearest-skips z l v k t) ∙ g) j (omega arith) ] ]
+    elim (cases-bool (l k)) [
+      | inl t ↦ absurd (or-some (nearest z l v k) k (far z v k) (sym (nearest-more z l v k t) ∙ g))
+      | inr t ↦ elim (cases-eq j k) [
+        | inl e ↦ ap l e ∙ t
+        | inr e ↦ nomark-none z l v k (sym (nearest-skips z l v k t) ∙ g) j (omega arith)
+      ]
+    ]
 
 -- what the numbers of a landmark say of it
 none-nomark : (M : Mark) → None ≡ markNumbers M → M ≡ NoMark
@@ -97,7 +99,7 @@ module _ (z : Map) (l : Marks) (u v : ℕ) (un : u < z .n) (vn : v < z .n)
   near-number =
       ap (λ (k : ℕ). ltb (farNumber (far z v u)) k) (away-number (markOf z l v))
       ∙ sym (closer-numbers (far z v u) (awayOf (markOf z l v)) (λ c p. fits u c un p)
-          (away-fits (markOf z l v) (λ m a e. let r = nearest-is z l v (z .n) m a e in (r .0, r .2))))
+      (away-fits (markOf z l v) (λ m a e. let r = nearest-is z l v (z .n) m a e in (r .0, r .2))))
 
 -- what a landmark that was found says
 pub found-at : (b : Bool) (x y : Nearest) → Some x ≡ cond b (Some y) None → (b ≡ true) × (x ≡ y)

@@ -17,6 +17,13 @@ use maps::faults::FaultFromRefused;
 use maps::kinds::Fault;
 use std::alloc::Global;
 
+// One distance is less than another: "less", not "at most".
+fn closer_than(away: u32, other: u32) -> bool
+    ensures { λ r. ⌜ r ≡ ltb away other ⌝ }
+{
+    away < other
+}
+
 impl Land {
     /// Works out the landmark of every place, where `marks` says which places are landmarks. Takes n times n steps.
     /// Refuses with Range where no place is one.
@@ -31,7 +38,11 @@ impl Land {
             };
             nearest.push(found)?;
         }
-        Ok(Land { survey, marks, nearest })
+        Ok(Land {
+            survey,
+            marks,
+            nearest,
+        })
     }
 
     /// The map that was surveyed.
@@ -65,7 +76,7 @@ impl Land {
         let Some(found) = self.landmark(v) else {
             return false;
         };
-        u < self.survey.map().len() as usize && self.survey.far(v, u) < found.away
+        u < self.survey.map().len() as usize && closer_than(self.survey.far(v, u), found.away)
     }
 
     /// Whether place `v` has a line on the post at `u`: it is a landmark or near `u`, and not `u` itself.

@@ -85,6 +85,7 @@ pub all-more : (old new : List Post) (p : Post) (u : ℕ) (value : ℕ → List 
 all-more old new p u value long e is before w h =
     let long′ : length (map told old) ≡ u = length-map old told ∙ long in
     ap (λ (xs : List Post). getD (map told xs) w []) e ∙ ap (λ (xs : List (List Line)). getD xs w []) (map-push told old p)
-    ∙ elim (cases-eq w u)
-      [ inl s ↦ getD-push (map told old) (told p) [] w (long′ ∙ sym s) ∙ is ∙ ap value (sym s)
-      | inr s ↦ getD-append-left (map told old) (told p ∷ []) [] w (omega (arith, long′)) ∙ before w (omega arith) ]
+    ∙ elim (cases-eq w u) [
+      | inl s ↦ getD-push (map told old) (told p) [] w (long′ ∙ sym s) ∙ is ∙ ap value (sym s)
+      | inr s ↦ getD-append-left (map told old) (told p ∷ []) [] w (omega (arith, long′)) ∙ before w (omega arith)
+    ]

@@ -102,7 +102,13 @@ fn show_plan(rt: &LibcRuntime, land: &Land, posts: &[Post]) -> Result<(), Ended>
 }
 
 // The line of one walk: the places passed, and how it ended.
-fn line_of(rt: &LibcRuntime, from: u16, to: u16, passed: &[u16], end: End) -> Result<String, Ended> {
+fn line_of(
+    rt: &LibcRuntime,
+    from: u16,
+    to: u16,
+    passed: &[u16],
+    end: End,
+) -> Result<String, Ended> {
     let mut line = String::new(rt.alloc());
     let mut made = write!(line, "{from} to {to}: {from}").is_ok();
     for place in passed {
@@ -114,10 +120,20 @@ fn line_of(rt: &LibcRuntime, from: u16, to: u16, passed: &[u16], end: End) -> Re
             End::Stuck(place) => write!(line, " stuck at {place}").is_ok(),
             End::Worn => write!(line, " worn out").is_ok(),
         };
-    if made { Ok(line) } else { Err(complain(rt, "walk", "no memory")) }
+    if made {
+        Ok(line)
+    } else {
+        Err(complain(rt, "walk", "no memory"))
+    }
 }
 
-fn show_walk(rt: &LibcRuntime, land: &Land, posts: &[Post], from: u16, to: u16) -> Result<(), Ended> {
+fn show_walk(
+    rt: &LibcRuntime,
+    land: &Land,
+    posts: &[Post],
+    from: u16,
+    to: u16,
+) -> Result<(), Ended> {
     let Some(card) = card_of(land, to) else {
         return Err(complain(rt, "walk", "a place that isn't there"));
     };
@@ -160,7 +176,7 @@ fn tour_of(rt: &LibcRuntime, list: &str, files: &[String], posts_only: bool) -> 
 }
 
 /// What follows `--landmarks`: the list of landmarks, perhaps `--posts`, and the files of the map.
-pub fn tour(rt: &LibcRuntime, given: &[String]) -> Result<(), Ended> {
+pub(crate) fn tour(rt: &LibcRuntime, given: &[String]) -> Result<(), Ended> {
     let [list, files @ ..] = given else {
         return Err(complain(rt, "walk", "--landmarks wants a list of places"));
     };

@@ -43,12 +43,13 @@ count-same (suc k) f g h =
 pub count-more : (k u : ℕ) (f g : ℕ → Bool) → u < k → f u ≡ false → g u ≡ true → ((i : ℕ) → i < k → (i ≡ u → ⊥) → g i ≡ f i) → countBelow k g ≡ countBelow k f + 1
 unfolding countBelow
 count-more zero u f g l p q h = absurd (omega arith)
-count-more (suc k) u f g l p q h = elim (cases-eq u k)
-    [ inl e ↦ (let x : _≡_ {A = ℕ} (cond (g k) 1 0) 1 = ap (λ b. cond b 1 0) (sym (ap g e) ∙ q) in
-               let y : _≡_ {A = ℕ} (cond (f k) 1 0) 0 = ap (λ b. cond b 1 0) (sym (ap f e) ∙ p) in
-               omega (arith, x, y, count-same k f g (λ i m. h i (omega arith) (λ s. omega arith))))
-    | inr e ↦ (let x : _≡_ {A = ℕ} (cond (g k) 1 0) (cond (f k) 1 0) = ap (λ b. cond b 1 0) (h k (omega arith) (λ s. e (sym s))) in
-               omega (arith, x, count-more k u f g (omega arith) p q (λ i m. h i (omega arith)))) ]
+count-more (suc k) u f g l p q h = elim (cases-eq u k) [
+  | inl e ↦ (let x : _≡_ {A = ℕ} (cond (g k) 1 0) 1 = ap (λ b. cond b 1 0) (sym (ap g e) ∙ q) in
+      let y : _≡_ {A = ℕ} (cond (f k) 1 0) 0 = ap (λ b. cond b 1 0) (sym (ap f e) ∙ p) in
+      omega (arith, x, y, count-same k f g (λ i m. h i (omega arith) (λ s. omega arith))))
+  | inr e ↦ (let x : _≡_ {A = ℕ} (cond (g k) 1 0) (cond (f k) 1 0) = ap (λ b. cond b 1 0) (h k (omega arith) (λ s. e (sym s))) in
+      omega (arith, x, count-more k u f g (omega arith) p q (λ i m. h i (omega arith))))
+]
 
 -- what passes f passes g
 one-within : (b c : Bool) → (b ≡ true → c ≡ true) → cond b 1 0 ≤ cond c 1 0
@@ -64,11 +65,12 @@ count-within (suc k) f g h = omega (arith, count-within k f g (λ i l. h i (omeg
 pub count-less : (k u : ℕ) (f g : ℕ → Bool) → u < k → f u ≡ false → g u ≡ true → ((i : ℕ) → i < k → f i ≡ true → g i ≡ true) → countBelow k f < countBelow k g
 unfolding countBelow
 count-less zero u f g l p q h = absurd (omega arith)
-count-less (suc k) u f g l p q h = elim (cases-eq u k)
-    [ inl e ↦ (let x : _≡_ {A = ℕ} (cond (f k) 1 0) 0 = ap (λ b. cond b 1 0) (sym (ap f e) ∙ p) in
-               let y : _≡_ {A = ℕ} (cond (g k) 1 0) 1 = ap (λ b. cond b 1 0) (sym (ap g e) ∙ q) in
-               omega (arith, x, y, count-within k f g (λ i m. h i (omega arith))))
-    | inr e ↦ omega (arith, count-less k u f g (omega arith) p q (λ i m. h i (omega arith)), one-within (f k) (g k) (h k (omega arith))) ]
+count-less (suc k) u f g l p q h = elim (cases-eq u k) [
+  | inl e ↦ (let x : _≡_ {A = ℕ} (cond (f k) 1 0) 0 = ap (λ b. cond b 1 0) (sym (ap f e) ∙ p) in
+      let y : _≡_ {A = ℕ} (cond (g k) 1 0) 1 = ap (λ b. cond b 1 0) (sym (ap g e) ∙ q) in
+      omega (arith, x, y, count-within k f g (λ i m. h i (omega arith))))
+  | inr e ↦ omega (arith, count-less k u f g (omega arith) p q (λ i m. h i (omega arith)), one-within (f k) (g k) (h k (omega arith)))
+]
 
 -- where one doesn't pass, they are fewer than all
 pub count-short : (k u : ℕ) (f : ℕ → Bool) → u < k → f u ≡ false → countBelow k f < k

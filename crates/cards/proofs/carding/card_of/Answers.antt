@@ -31,9 +31,9 @@ returns c =
     let few = ground-few (s .survey .map) in
     let p : c .in-Some .found .place ≡ placeOf (markOf z l v) = ap (λ (x : Nearest). x .place) (f .1) ∙ place-number (markOf z l v) in
     let h : c .of-number .result ≡ cardOf z l v .hint =
-        c .of-number .ensures .read
-        ∙ ap hintFrom (c .hop-next .ensures ∙ ap (λ (x : Survey). hopIn (ground (x .map)) v (c .in-Some .found .place)) (c .survey .ensures) ∙ ap (λ (k : ℕ). hopIn z v k) p)
-        ∙ hint-is z l v (few .0) (few .1) vn in
+    c .of-number .ensures .read
+    ∙ ap hintFrom (c .hop-next .ensures ∙ ap (λ (x : Survey). hopIn (ground (x .map)) v (c .in-Some .found .place)) (c .survey .ensures) ∙ ap (λ (k : ℕ). hopIn z v k) p)
+    ∙ hint-is z l v (few .0) (few .1) vn in
     ap (λ (k : ℕ). Some (record { place = v; landmark = k; hint = c .of-number .result })) p
     ∙ ap (λ (x : Hint). Some (record { place = v; landmark = placeOf (markOf z l v); hint = x })) h
     ∙ ap (λ (t : Bool). cond t (Some (cardOf z l v)) None) (sym (f .0))

@@ -33,13 +33,14 @@ loop-k-again c =
     let vn : v < b .n = omega (arith, n, c .if-v-n .left) in
     let kn : k < b .n = omega (arith, n, c .loop-k-test .taken) in
     let fits : (a e : ℕ) → a < b .n → far z v a ≡ At e → e < 4294967295 = λ a e an h. ground-fits b v a e vn an h in
-    elim (c .if-is-marked .came)
-      [ then-is-marked w ↦
+    elim (c .if-is-marked .came) [
+      | then-is-marked w ↦
           w .best-is ∙ w .nearer-best .ensures ∙ ap (λ (x : ℕ). orNearer (c .loop-k .best) k x) (w .far .ensures ∙ sym (chosen-in (b .n) v k (farNumber (far z v k)) 4294967295 vn kn))
           ∙ ap (λ (x : Option Nearest). orNearer x k (farNumber (far z v k))) (c .loop-k .inv)
           ∙ sym (turn-marked z l v k vn kn fits (sym (c .is-marked .ensures) ∙ w .if-is-marked .taken))
       | else-is-marked w ↦
-          w .best-is ∙ c .loop-k .inv ∙ sym (turn-unmarked z l v k vn kn fits (sym (c .is-marked .ensures) ∙ w .if-is-marked .left)) ]
+          w .best-is ∙ c .loop-k .inv ∙ sym (turn-unmarked z l v k vn kn fits (sym (c .is-marked .ensures) ∙ w .if-is-marked .left))
+    ]
 
 pub returns : need.returns
 returns c =

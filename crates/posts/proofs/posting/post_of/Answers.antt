@@ -32,7 +32,7 @@ unreachable-requires c κs =
     let z = mapIn s in
     let n : c .len-n .result ≡ z .n = c .len-n .ensures ∙ ap (λ (x : RoadMapBuf). x .n) (c .map .ensures ∙ ap (λ (x : Survey). x .map) (c .survey .ensures)) in
     turn-taken z (marksOf s) (c .args .u) (c .loop-v .v) (omega (arith, n, c .loop-v-test .taken)) (told (c .loop-v .post)) (c .loop-v .inv)
-      (c .line-of-line .result) (told (c .push .last .self)) (c .push .result) (c .line-of-line .ensures) (omega (arith, c .if-len-ge255 .left, c .len .ensures)) (c .push .ensures) (c .in-rest .field-0) (c .in-rest .is)
+    (c .line-of-line .result) (told (c .push .last .self)) (c .push .result) (c .line-of-line .ensures) (omega (arith, c .if-len-ge255 .left, c .len .ensures)) (c .push .ensures) (c .in-rest .field-0) (c .in-rest .is)
 
 pub loop-v-again : need.loop-v-again
 loop-v-again c =
@@ -42,8 +42,9 @@ loop-v-again c =
     let un : c .args .u < z .n = omega (arith, n, c .if-u-n .left) in
     let vn : c .loop-v .v < z .n = omega (arith, n, c .loop-v-test .taken) in
     let on = within-test (z .n) (c .args .u) (c .loop-v .v) (onPost z (marksOf s) (c .args .u) (c .loop-v .v)) (c .on-post .result) un vn (c .on-post .ensures) in
-    elim (c .if-on-post .came)
-      [ then-on-post·else-len-ge255·in-Ok w ↦
+    elim (c .if-on-post .came) [
+      | then-on-post·else-len-ge255·in-Ok w ↦
           ap told (w .post-is) ∙ turn-on z (marksOf s) (c .args .u) (c .loop-v .v) vn (told (c .loop-v .post)) (c .loop-v .inv) (w .line-of-line .result) (told (w .push .last .self)) (w .line-of-line .ensures) (on ∙ w .if-on-post .taken) (w .in-Ok .ensures tt .2)
       | else-on-post w ↦
-          ap told (w .post-is) ∙ turn-off z (marksOf s) (c .args .u) (c .loop-v .v) vn (told (c .loop-v .post)) (c .loop-v .inv) (on ∙ w .if-on-post .left) ]
+          ap told (w .post-is) ∙ turn-off z (marksOf s) (c .args .u) (c .loop-v .v) vn (told (c .loop-v .post)) (c .loop-v .inv) (on ∙ w .if-on-post .left)
+    ]

@@ -38,6 +38,7 @@ loop-u-again c =
     let s = c .args .land .now in
     let old = vec-items (c .loop-u .posts) in
     let j : vec-items (c .push .last .self) ≡ old ++ c .in-Ok .post ∷ [] = pushed (c .in-Ok .post ∷ []) refl (c .in-Continue-push .was tt) (c .push .ensures .items) in
-    let long : length old ≡ c .loop-u .u = sym (c .loop-u .posts .ok .0) ∙ c .loop-u .inv .0 in
-    (omega (arith, c .push .last .self .ok .0, ap length j, length-push old (c .in-Ok .post), long),
-     all-more old (vec-items (c .push .last .self)) (c .in-Ok .post) (c .loop-u .u) (postOf (mapIn s) (marksOf s)) long j (c .in-Ok .ensures tt .1) (c .loop-u .inv .1))
+    let long : length old ≡ c .loop-u .u = sym (c .loop-u .posts .ok .0) ∙ c .loop-u .inv .0 in (
+      omega (arith, c .push .last .self .ok .0, ap length j, length-push old (c .in-Ok .post), long),
+      all-more old (vec-items (c .push .last .self)) (c .in-Ok .post) (c .loop-u .u) (postOf (mapIn s) (marksOf s)) long j (c .in-Ok .ensures tt .1) (c .loop-u .inv .1),
+    )

@@ -15,7 +15,13 @@ ghost-result c =
     let e = view-is (c .map .result) (b .n) (vec-items (b .roads)) (c .map .ensures .n) (c .map .ensures .same) in
     let w = c .in-Continue-all-rows .ensures tt in
     let dl : length (c .all-rows .last .dist) ≡ c .in-Continue-dist .dist .len = c .all-rows .kept .dist ∙ c .deref-mut .ensures .len in
-    let nl : length (c .all-rows .last .next) ≡ c .in-Continue-next .next .len = c .all-rows .kept .next ∙ c .deref-mut-2 .ensures .len in
-    (search needs, (search needs,
-      (fars-of (chart (c .map .result)) (ground b) (b .n) (c .all-rows .last .dist) _ (take-at (c .all-rows .last .dist) _ (c .in-Continue-dist .dist .len) dl) e refl (w .2),
-      (hops-of (chart (c .map .result)) (ground b) (b .n) (c .all-rows .last .next) _ (take-at (c .all-rows .last .next) _ (c .in-Continue-next .next .len) nl) e refl (w .3), tt))))
+    let nl : length (c .all-rows .last .next) ≡ c .in-Continue-next .next .len = c .all-rows .kept .next ∙ c .deref-mut-2 .ensures .len in (
+      search needs,
+      (
+        search needs,
+        (
+          fars-of (chart (c .map .result)) (ground b) (b .n) (c .all-rows .last .dist) _ (take-at (c .all-rows .last .dist) _ (c .in-Continue-dist .dist .len) dl) e refl (w .2),
+          (hops-of (chart (c .map .result)) (ground b) (b .n) (c .all-rows .last .next) _ (take-at (c .all-rows .last .next) _ (c .in-Continue-next .next .len) nl) e refl (w .3), tt),
+        ),
+      ),
+    )

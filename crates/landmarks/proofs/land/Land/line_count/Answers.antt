@@ -21,10 +21,11 @@ pub loop-v-again : need.loop-v-again
 loop-v-again c =
     let f : ℕ → Bool = onPostIn (c .args .self .now) (c .args .u) in
     let v = c .loop-v .v in
-    elim (c .if-on-post .came)
-      [ then-on-post w ↦
+    elim (c .if-on-post .came) [
+      | then-on-post w ↦
           (let e : _≡_ {A = ℕ} (cond (f v) 1 0) 1 = ap (λ (b : Bool). cond b 1 0) (sym (c .on-post .ensures) ∙ w .if-on-post .taken) in
           omega (arith, w .count-is, c .loop-v .inv, count-next v f, e))
       | else-on-post w ↦
           (let e : _≡_ {A = ℕ} (cond (f v) 1 0) 0 = ap (λ (b : Bool). cond b 1 0) (sym (c .on-post .ensures) ∙ w .if-on-post .left) in
-          omega (arith, w .count-is, c .loop-v .inv, count-next v f, e)) ]
+          omega (arith, w .count-is, c .loop-v .inv, count-next v f, e))
+    ]

@@ -25,7 +25,8 @@ returns-then-u-len c =
     let f = found-at (ltb v (z .n)) (c .in-Some .found) (markNumber (markOf z l v)) (c .in-Some .ensures tt) in
     let vn : v < z .n = ltb-true v (z .n) (f .0) in
     let un : u < z .n = omega (arith, c .if-u-len .taken, c .len .ensures ∙ ap (λ (x : RoadMapBuf). x .n) (c .map .ensures)) in
-    ap (λ (x : ℕ). ltb x (c .in-Some .found .away)) (c .far .ensures ∙ sym (chosen-in (z .n) v u (farNumber (far z v u)) 4294967295 vn un))
+    c .closer-than .ensures
+    ∙ ap (λ (x : ℕ). ltb x (c .in-Some .found .away)) (c .far .ensures ∙ sym (chosen-in (z .n) v u (farNumber (far z v u)) 4294967295 vn un))
     ∙ ap (λ (x : Nearest). ltb (farNumber (far z v u)) (x .away)) (f .1)
     ∙ near-number z l u v un vn (λ a e an h. ground-fits (s .survey .map) v a e vn an h)
     ∙ ap (λ (t : Bool). cond t (near z l u v) false) (sym (and-from (ltb u (z .n)) (ltb v (z .n)) (lt-ltb u (z .n) un) (f .0)))

@@ -29,7 +29,7 @@ returns-in-rest c =
     let b = c .args .survey .map in
     let n : c .len-n .result ≡ b .n = c .len-n .ensures ∙ ap (λ (x : RoadMapBuf). x .n) (c .map .ensures) in
     found-none (ground b) (marksIn (vec-items (c .args .marks))) (c .loop-v .v) (omega (arith, n, c .loop-v-test .taken))
-      (c .in-rest .ensures tt ∙ ap (λ (xs : List Bool). landmarkIn (ground b) (marksIn xs) (c .loop-v .v)) (c .deref .ensures .value))
+    (c .in-rest .ensures tt ∙ ap (λ (xs : List Bool). landmarkIn (ground b) (marksIn xs) (c .loop-v .v)) (c .deref .ensures .value))
 
 pub returns-in-Break-push : need.returns-in-Break-push
 returns-in-Break-push c =
@@ -48,10 +48,12 @@ loop-v-again c =
     let j : vec-items (c .push .last .self) ≡ old ++ c .in-Some .found ∷ [] = pushed (c .in-Some .found ∷ []) refl (c .in-Continue-push .was tt) (c .push .ensures .items) in
     let long : length old ≡ v = sym (c .loop-v .nearest .ok .0) ∙ c .loop-v .inv .0 in
     let found : c .in-Some .found ≡ markNumber (markOf z l v) =
-        found-some z l v (c .in-Some .found) (omega (arith, n, c .loop-v-test .taken))
-          (c .in-Some .ensures tt ∙ ap (λ (xs : List Bool). landmarkIn z (marksIn xs) v) (c .deref .ensures .value)) in
-    (omega (arith, c .push .last .self .ok .0, ap length j, length-push old (c .in-Some .found), long),
-     λ w h. ap (λ (xs : List Nearest). getD xs w none) j
-       ∙ elim (cases-eq w v)
-         [ inl e ↦ getD-push old (c .in-Some .found) none w (long ∙ sym e) ∙ found ∙ ap (λ (k : ℕ). markNumber (markOf z l k)) (sym e)
-         | inr e ↦ getD-append-left old (c .in-Some .found ∷ []) none w (omega (arith, long)) ∙ c .loop-v .inv .1 w (omega arith) ])
+    found-some z l v (c .in-Some .found) (omega (arith, n, c .loop-v-test .taken))
+    (c .in-Some .ensures tt ∙ ap (λ (xs : List Bool). landmarkIn z (marksIn xs) v) (c .deref .ensures .value)) in (
+      omega (arith, c .push .last .self .ok .0, ap length j, length-push old (c .in-Some .found), long),
+      λ w h. ap (λ (xs : List Nearest). getD xs w none) j
+          ∙ elim (cases-eq w v) [
+            | inl e ↦ getD-push old (c .in-Some .found) none w (long ∙ sym e) ∙ found ∙ ap (λ (k : ℕ). markNumber (markOf z l k)) (sym e)
+            | inr e ↦ getD-append-left old (c .in-Some .found ∷ []) none w (omega (arith, long)) ∙ c .loop-v .inv .1 w (omega arith)
+          ],
+    )
