@@ -11,6 +11,7 @@ use Rattle.std.proofs.shelf.Tests.{cases-bool, cases-eq, le-ltb, lt-ltb}
 use Rattle.distances.specs.Rows.{farNumber}
 use Rattle.landmarks.proofs.Closest.{nearest-is, nearest-more, nearest-skips}
 use Rattle.landmarks.specs.Landmarks.{Is, Mark, Marks, NoMark, awayOf, closer, markOf, near, nearest, orCloser}
+use Rattle.landmarks.specs.Laws.{SomeMark}
 use Rattle.landmarks.specs.Numbers.{landmarkIn, markNumber, markNumbers, orNearer}
 use Rattle.landmarks.specs.declared.kinds.Nearest.{Nearest}
 use Rattle.ways.specs.Map.{At, Far, Map, Never, far}
@@ -83,6 +84,14 @@ found-none z l v vn e = nomark-none z l v (z .n) (none-nomark (markOf z l v) (e 
 
 pub found-some : (z : Map) (l : Marks) (v : ℕ) (x : Nearest) → v < z .n → Some x ≡ landmarkIn z l v → x ≡ markNumber (markOf z l v)
 found-some z l v x vn e = some-number (markOf z l v) x (e ∙ within-is z l v vn)
+
+-- a landmark that was found is there
+some-mark : (z : Map) (l : Marks) (v : ℕ) (x : Nearest) (M : Mark) → markOf z l v ≡ M → Some x ≡ markNumbers M → SomeMark z l
+some-mark z l v x NoMark is e = let z : _≡_ {A = ℕ} 0 1 = cc in absurd (omega arith)
+some-mark z l v x (Is m a) is e = let r = nearest-is z l v (z .n) m a is in (m, r .0, r .1)
+
+pub found-mark : (z : Map) (l : Marks) (v : ℕ) (x : Nearest) → v < z .n → Some x ≡ landmarkIn z l v → SomeMark z l
+found-mark z l v x vn e = some-mark z l v x (markOf z l v) refl (e ∙ within-is z l v vn)
 
 -- ---- near, in numbers
 module _ (z : Map) (l : Marks) (u v : ℕ) (un : u < z .n) (vn : v < z .n)

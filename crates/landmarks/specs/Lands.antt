@@ -9,6 +9,7 @@ use Rattle.std.specs.declared.result.Result.{Result}
 use Rattle.std.specs.declared.result.Result.the-variants.{Err, Ok}
 use Rattle.distances.specs.declared.survey.Survey.{Survey}
 use Rattle.landmarks.specs.Landmarks.{Marks, marksIn, near, onPost}
+use Rattle.landmarks.specs.Laws.{SomeMark}
 use Rattle.landmarks.specs.declared.land.Land.{Land}
 use Rattle.maps.specs.Charts.{ground}
 use Rattle.maps.specs.declared.kinds.Fault.{Fault}
@@ -22,9 +23,9 @@ mapIn s = ground (s .survey .map)
 abbrev pub marksOf : Land → Marks
 marksOf s = marksIn (vec-items (s .marks))
 
--- the land of just this survey and these landmarks; refused only where no place is a landmark, or for want of memory
+-- the land of just this survey and these landmarks, of which there is one at least; refused only where no place is a landmark, or for want of memory
 abbrev pub Settled : Survey → List Bool → Result Land Fault → Type 0
-Settled survey marks (Ok s) = (s .survey ≡ survey) × (vec-items (s .marks) ≡ marks)
+Settled survey marks (Ok s) = (s .survey ≡ survey) × (vec-items (s .marks) ≡ marks) × SomeMark (ground (survey .map)) (marksIn marks)
 Settled survey marks (Err Range) = (v : ℕ) → v < ground (survey .map) .n → marksIn marks v ≡ false
 Settled survey marks (Err Memory) = Unit {0}
 Settled survey marks (Err Form) = ⊥

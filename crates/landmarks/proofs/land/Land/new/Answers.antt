@@ -13,7 +13,8 @@ use Rattle.std.specs.Of.Vec.{vec-items}
 use Rattle.std.specs.declared.option.Option.the-variants.{None, Some}
 use Rattle.std.specs.declared.result.Result.{Result}
 use Rattle.std.specs.declared.result.Result.the-variants.{Err}
-use Rattle.landmarks.proofs.Numbered.{found-none, found-some}
+use Rattle.distances.proofs.Surveyed.{ground-few}
+use Rattle.landmarks.proofs.Numbered.{found-mark, found-none, found-some}
 use Rattle.landmarks.proofs.land.Land.new.Needs as need
 use Rattle.landmarks.specs.Landmarks.{markOf, marksIn}
 use Rattle.landmarks.specs.Lands.{Settled}
@@ -47,13 +48,20 @@ loop-v-again c =
     let n : c .len-n .result ≡ b .n = c .len-n .ensures ∙ ap (λ (x : RoadMapBuf). x .n) (c .map .ensures) in
     let j : vec-items (c .push .last .self) ≡ old ++ c .in-Some .found ∷ [] = pushed (c .in-Some .found ∷ []) refl (c .in-Continue-push .was tt) (c .push .ensures .items) in
     let long : length old ≡ v = sym (c .loop-v .nearest .ok .0) ∙ c .loop-v .inv .0 in
-    let found : c .in-Some .found ≡ markNumber (markOf z l v) =
-    found-some z l v (c .in-Some .found) (omega (arith, n, c .loop-v-test .taken))
-    (c .in-Some .ensures tt ∙ ap (λ (xs : List Bool). landmarkIn z (marksIn xs) v) (c .deref .ensures .value)) in (
+    let told : Some (c .in-Some .found) ≡ landmarkIn z l v = c .in-Some .ensures tt ∙ ap (λ (xs : List Bool). landmarkIn z (marksIn xs) v) (c .deref .ensures .value) in
+    let vn : v < z .n = omega (arith, n, c .loop-v-test .taken) in
+    let found : c .in-Some .found ≡ markNumber (markOf z l v) = found-some z l v (c .in-Some .found) vn told in (
       omega (arith, c .push .last .self .ok .0, ap length j, length-push old (c .in-Some .found), long),
+      λ h. found-mark z l v (c .in-Some .found) vn told,
       λ w h. ap (λ (xs : List Nearest). getD xs w none) j
           ∙ elim (cases-eq w v) [
             | inl e ↦ getD-push old (c .in-Some .found) none w (long ∙ sym e) ∙ found ∙ ap (λ (k : ℕ). markNumber (markOf z l k)) (sym e)
-            | inr e ↦ getD-append-left old (c .in-Some .found ∷ []) none w (omega (arith, long)) ∙ c .loop-v .inv .1 w (omega arith)
+            | inr e ↦ getD-append-left old (c .in-Some .found ∷ []) none w (omega (arith, long)) ∙ c .loop-v .inv .2 w (omega arith)
           ],
     )
+
+pub returns : need.returns
+returns c =
+    let b = c .args .survey .map in
+    let n : c .len-n .result ≡ b .n = c .len-n .ensures ∙ ap (λ (x : RoadMapBuf). x .n) (c .map .ensures) in
+    (refl, refl, c .loop-v .inv .1 (omega (arith, n, ground-few b .0, c .loop-v-test .left)))
