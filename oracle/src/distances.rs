@@ -18,11 +18,6 @@ impl Distances {
         }
     }
 
-    /// How many places there are.
-    pub fn places(&self) -> usize {
-        self.neighbours.len()
-    }
-
     /// The least cost of a way from `from` to `to`; none where there is no way.
     pub fn distance(&self, from: usize, to: usize) -> Option<u32> {
         self.to[to][from]

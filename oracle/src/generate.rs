@@ -17,8 +17,6 @@ pub enum Kind {
     Grid,
     Tree,
     Path,
-    /// A path in the order of the places, costs 1.
-    Row,
     Ring,
     Star,
     /// As random, with costs from 60,000 to 65,535.
@@ -27,14 +25,13 @@ pub enum Kind {
     Ties,
 }
 
-pub const KINDS: [Kind; 11] = [
+pub const KINDS: [Kind; 10] = [
     Kind::Random,
     Kind::Sparse,
     Kind::Dense,
     Kind::Grid,
     Kind::Tree,
     Kind::Path,
-    Kind::Row,
     Kind::Ring,
     Kind::Star,
     Kind::Heavy,
@@ -51,7 +48,6 @@ impl Kind {
             Kind::Grid => "grid",
             Kind::Tree => "tree",
             Kind::Path => "path",
-            Kind::Row => "row",
             Kind::Ring => "ring",
             Kind::Star => "star",
             Kind::Heavy => "heavy",
@@ -87,7 +83,6 @@ pub fn generate(kind: Kind, seed: u64, places: usize, roads: usize) -> Map {
             Kind::Sparse => apart(points[a], points[b]).isqrt().max(1),
             Kind::Heavy => random.between(60_000, 65_535),
             Kind::Ties => random.between(1, 3),
-            Kind::Row => 1,
             _ => random.between(1, 1000),
         };
         let (lower, higher) = ordered(numbers[a], numbers[b]);
@@ -112,17 +107,17 @@ fn shape(kind: Kind, points: &[Point], wanted: usize, random: &mut Random) -> BT
         Kind::Dense => fill(clique(places, wanted, random), places, wanted, random),
         Kind::Grid => grid(places),
         Kind::Tree => tree(places, random),
-        Kind::Path | Kind::Row => path(places),
+        Kind::Path => path(places),
         Kind::Ring => ring(places),
         Kind::Star => (1..places).map(|leaf| (0, leaf)).collect(),
     }
 }
 
-/// The numbers that the places get in the end: of a grid and a row they stay, else they are drawn,
-/// so that the lowest of equal neighbours is anywhere in the shape.
+/// The numbers that the places get in the end: of a grid they stay, else they are drawn, so that
+/// the lowest of equal neighbours is anywhere in the shape.
 fn numbering(kind: Kind, places: usize, random: &mut Random) -> Vec<usize> {
     let mut numbers: Vec<usize> = (0..places).collect();
-    if !matches!(kind, Kind::Grid | Kind::Row) {
+    if kind != Kind::Grid {
         random.shuffle(&mut numbers);
     }
     numbers

@@ -5,24 +5,17 @@
 //! by reading. Only `dijkstra` is meant to be quick: the benchmark measures the programs by it.
 
 pub mod cards;
-pub mod choosing;
 pub mod dijkstra;
 pub mod distances;
 pub mod faults;
-pub mod files;
 pub mod generate;
 pub mod landmarks;
 pub mod map;
-pub mod options;
-pub mod planning;
-pub mod plans;
 pub mod posts;
 pub mod programs;
 pub mod random;
 pub mod reading;
-pub mod signs;
 pub mod telling;
 pub mod walking;
-pub mod words;
 pub mod worked;
 pub mod writing;

@@ -48,8 +48,8 @@ impl Map {
             .map(|road| road.cost)
     }
 
-    /// The lowest place that can't be reached from place 0; none where the map is connected.
-    pub fn lowest_unreached(&self) -> Option<usize> {
+    /// Whether every place can be reached from place 0.
+    pub fn is_connected(&self) -> bool {
         let mut reached = vec![false; self.places];
         reached[0] = true;
         let mut grows = true;
@@ -63,7 +63,7 @@ impl Map {
                 }
             }
         }
-        reached.iter().position(|&is_reached| !is_reached)
+        reached.iter().all(|&is_reached| is_reached)
     }
 }
 
@@ -102,31 +102,32 @@ mod tests {
 
     #[test]
     fn one_place_is_connected_and_two_without_a_road_are_not() {
-        let unreached = |places| {
-            let roads = vec![];
-            Map { places, roads }.lowest_unreached()
-        };
-        assert_eq!(
-            (unreached(1), unreached(2), unreached(9)),
-            (None, Some(1), Some(1))
-        );
+        assert!(Map {
+            places: 1,
+            roads: vec![]
+        }
+        .is_connected());
+        assert!(!Map {
+            places: 2,
+            roads: vec![]
+        }
+        .is_connected());
     }
 
     #[test]
     fn two_halves_are_not_connected() {
-        let mut roads = vec![road(0, 3, 1), road(1, 2, 1)];
-        let halves = Map {
+        let halves = vec![road(0, 3, 1), road(1, 2, 1)];
+        assert!(!Map {
             places: 4,
-            roads: roads.clone(),
-        };
-        assert_eq!(halves.lowest_unreached(), Some(1));
-        roads.push(road(2, 3, 1));
-        assert_eq!(Map { places: 4, roads }.lowest_unreached(), None);
-    }
-
-    #[test]
-    fn the_lowest_place_that_is_not_reached() {
-        let roads = vec![road(0, 1, 1), road(1, 4, 1), road(2, 3, 1)];
-        assert_eq!(Map { places: 6, roads }.lowest_unreached(), Some(2));
+            roads: halves.clone()
+        }
+        .is_connected());
+        let mut joined = halves;
+        joined.push(road(2, 3, 1));
+        assert!(Map {
+            places: 4,
+            roads: joined
+        }
+        .is_connected());
     }
 }

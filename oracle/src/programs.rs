@@ -2,16 +2,14 @@
 
 use crate::dijkstra::{Dijkstra, NO_PLACE};
 use crate::distances::Distances;
-use crate::faults::Refused;
+use crate::faults::Refusal;
 use crate::map::Map;
-use crate::options::Options;
-use crate::planning;
 use crate::reading::{read_map, Behind};
 use std::fmt::Write;
 use std::hint::black_box;
 
-/// A program without options: from the bytes of its input to what it prints.
-pub type Program = fn(&[u8]) -> Result<String, Refused>;
+/// A program: from the bytes of its input to what it prints.
+pub type Program = fn(&[u8]) -> Result<String, Refusal>;
 
 /// The programs by their names.
 pub const PROGRAMS: [(&str, Program); 4] = [
@@ -29,15 +27,15 @@ pub fn named(name: &str) -> Option<Program> {
         .map(|&(_, program)| program)
 }
 
-/// Reads a map and then the room, and tells what stands on the posts of its plan.
-pub fn plan(input: &[u8]) -> Result<String, Refused> {
-    let planned = planning::plan(input, &Options::default())?;
-    Ok(planned.text)
+/// Reads a map alone and says what was read.
+pub fn plan(input: &[u8]) -> Result<String, Refusal> {
+    let (map, _) = read_map(input, Behind::Nothing)?;
+    Ok(summary(&map))
 }
 
 /// Reads a map and says how much follows.
-pub fn walk(input: &[u8]) -> Result<String, Refused> {
-    let (map, bytes) = read_map(input, Behind::Records)?;
+pub fn walk(input: &[u8]) -> Result<String, Refusal> {
+    let (map, bytes) = read_map(input, Behind::Documents)?;
     Ok(format!(
         "{}then {} bytes\n",
         summary(&map),
@@ -46,12 +44,12 @@ pub fn walk(input: &[u8]) -> Result<String, Refused> {
 }
 
 /// Reads a map and says how much follows.
-pub fn change(input: &[u8]) -> Result<String, Refused> {
+pub fn change(input: &[u8]) -> Result<String, Refusal> {
     walk(input)
 }
 
 /// Reads a map alone and tells for each place the distances and next places of all towards it.
-pub fn rows(input: &[u8]) -> Result<String, Refused> {
+pub fn rows(input: &[u8]) -> Result<String, Refusal> {
     let (map, _) = read_map(input, Behind::Nothing)?;
     let distances = Distances::of(&map);
     let mut text = String::new();
@@ -72,7 +70,7 @@ pub fn rows(input: &[u8]) -> Result<String, Refused> {
 }
 
 /// Works all rows of a map out `times` times with the quick Dijkstra and tells a sum over the last.
-pub fn repeated_rows(input: &[u8], times: u64) -> Result<String, Refused> {
+pub fn repeated_rows(input: &[u8], times: u64) -> Result<String, Refusal> {
     let (map, _) = read_map(input, Behind::Nothing)?;
     let mut dijkstra = Dijkstra::of(&map);
     let mut distance = vec![0; map.places * map.places];
@@ -100,14 +98,15 @@ mod tests {
 
     #[test]
     fn says_what_was_read_and_what_follows() {
+        assert_eq!(plan(&ROW).unwrap(), "map: 3 places, 2 roads\n");
         let followed = [&ROW[..], &[9, 9]].concat();
         assert_eq!(
             walk(&followed).unwrap(),
             "map: 3 places, 2 roads\nthen 2 bytes\n"
         );
         assert_eq!(
-            rows(&followed).unwrap_err().to_string(),
-            "fault 1: end 0 at byte 17: 2 bytes left over"
+            plan(&followed).unwrap_err().to_string(),
+            "fault 1: end 0 at byte 17"
         );
     }
 

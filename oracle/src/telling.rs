@@ -2,14 +2,41 @@
 
 use crate::cards::all_cards;
 use crate::distances::Distances;
-use crate::faults::Refused;
+use crate::faults::Refusal;
 use crate::landmarks::Landmarks;
 use crate::map::Map;
-use crate::posts::all_posts;
+use crate::posts::{all_posts, Standing};
 use crate::reading::{read_map, Behind};
-use crate::signs::{tell_cards, tell_posts};
 use crate::walking::{walk, End, Walk};
 use std::fmt::{self, Write};
+
+/// Why nothing is told.
+#[derive(Clone, Debug, PartialEq, Eq)]
+pub enum Refused {
+    Map(Refusal),
+    /// With what is wrong with the landmarks, in words.
+    Landmarks(String),
+}
+
+impl Refused {
+    /// What is wrong in words.
+    pub fn text(&self) -> &str {
+        match self {
+            Refused::Map(refusal) => refusal.fault.text(),
+            Refused::Landmarks(text) => text,
+        }
+    }
+}
+
+/// Shows the part that every implementation has to say alike.
+impl fmt::Display for Refused {
+    fn fmt(&self, out: &mut fmt::Formatter<'_>) -> fmt::Result {
+        match self {
+            Refused::Map(refusal) => refusal.fmt(out),
+            Refused::Landmarks(_) => out.write_str("landmarks"),
+        }
+    }
+}
 
 /// What is told of a map alone and its landmarks: `walks` or `posts`.
 pub type Telling = fn(&[u8], &str) -> Result<String, Refused>;
@@ -48,14 +75,36 @@ pub fn posts(input: &[u8], list: &str) -> Result<String, Refused> {
     let (map, chosen) = read(input, list)?;
     let distances = Distances::of(&map);
     let landmarks = Landmarks::new(&distances, &chosen);
-    let posts = tell_posts(&all_posts(map.places, &landmarks));
-    Ok(posts + &tell_cards(&all_cards(map.places, &landmarks)))
+    let mut text = String::new();
+    tell_signs(&mut text, map.places, &landmarks).expect("a text can be written");
+    Ok(text)
+}
+
+fn tell_signs(text: &mut String, places: usize, landmarks: &Landmarks) -> fmt::Result {
+    for (place, post) in all_posts(places, landmarks).iter().enumerate() {
+        writeln!(text, "post {place}: {} lines", post.lines.len())?;
+        for line in &post.lines {
+            let standing = match line.standing {
+                Standing::Near => "near",
+                Standing::Landmark => "landmark",
+            };
+            writeln!(text, "  {} by {} {standing}", line.place, line.next)?;
+        }
+    }
+    for card in all_cards(places, landmarks) {
+        let hint = card
+            .hint
+            .map_or("none".to_string(), |hint| hint.to_string());
+        let (place, landmark) = (card.place, card.landmark);
+        writeln!(text, "card {place}: landmark {landmark} hint {hint}")?;
+    }
+    Ok(())
 }
 
 /// Reads the list of landmarks, then a map alone, and looks for the landmarks there.
 fn read(input: &[u8], list: &str) -> Result<(Map, Vec<usize>), Refused> {
     let chosen = read_list(list).map_err(Refused::Landmarks)?;
-    let (map, _) = read_map(input, Behind::Nothing)?;
+    let (map, _) = read_map(input, Behind::Nothing).map_err(Refused::Map)?;
     if let Some(unknown) = chosen.iter().find(|&&place| place >= map.places) {
         return Err(Refused::Landmarks(format!("there is no place {unknown}")));
     }
@@ -94,8 +143,8 @@ mod tests {
     #[test]
     fn tells_all_posts_and_cards() {
         let expected = "post 0: 4 lines\n  1 by 1 landmark\n  2 by 2 near\n  3 by 3 near\n  \
-                        4 by 4 near\npost 1: 0 lines\npost 2: 1 line\n  1 by 0 landmark\n\
-                        post 3: 1 line\n  1 by 0 landmark\npost 4: 1 line\n  1 by 0 landmark\n\
+                        4 by 4 near\npost 1: 0 lines\npost 2: 1 lines\n  1 by 0 landmark\n\
+                        post 3: 1 lines\n  1 by 0 landmark\npost 4: 1 lines\n  1 by 0 landmark\n\
                         card 0: landmark 1 hint 0\ncard 1: landmark 1 hint none\n\
                         card 2: landmark 1 hint 0\ncard 3: landmark 1 hint 0\n\
                         card 4: landmark 1 hint 0\n";
@@ -138,11 +187,11 @@ mod tests {
         let input = write_map(&row());
         for list in ["", "5", "0,5", "65536", "99999999999999999999"] {
             let refused = walks(&input, list).unwrap_err();
-            assert!(refused.to_string().starts_with("landmarks: "), "{list:?}");
+            assert_eq!(refused.to_string(), "landmarks", "{list:?}");
         }
         for list in ["x", ",", "0,", ",0", "0,,1", "-1", "+1", " 1", "1 2"] {
             let refused = posts(&input, list).unwrap_err();
-            assert!(refused.to_string().starts_with("landmarks: "), "{list:?}");
+            assert_eq!(refused.to_string(), "landmarks", "{list:?}");
         }
         assert_eq!(walks(&input, "4,0,4"), walks(&input, "0,4"));
     }
@@ -152,7 +201,6 @@ mod tests {
         let mut input = write_map(&row());
         input.push(4);
         let refused = walks(&input, "0").unwrap_err();
-        let left_over = "fault 1: end 0 at byte 29: 1 byte left over";
-        assert_eq!(refused.to_string(), left_over);
+        assert_eq!(refused.to_string(), "fault 1: end 0 at byte 29");
     }
 }

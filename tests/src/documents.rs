@@ -2,14 +2,11 @@
 
 use crate::expected::Expected;
 use crate::program::Programs;
-use crate::report::{Difference, Report};
+use crate::report::Report;
 use crate::{changed, damage, ends, parallel, roads};
-use oracle::faults::Refused;
 use oracle::generate::{generate, Kind, KINDS};
 use oracle::map::Map;
-use oracle::options::Options;
-use oracle::planning;
-use oracle::programs::{self, Program};
+use oracle::programs;
 use oracle::random::Random;
 use oracle::writing::write_map;
 use std::collections::HashSet;
@@ -21,66 +18,13 @@ pub struct Document {
     pub bytes: Vec<u8>,
 }
 
-/// A way to give a document to a program.
-struct Way {
-    name: &'static str,
-    words: &'static [&'static str],
-    /// What is given behind the document.
-    behind: &'static [u8],
-    /// What the oracle says to all that is given.
-    says: Program,
-}
-
-/// All ways. There is much room for lines: here it is reading that matters, and choosing is quick.
-const WAYS: [Way; 4] = [
-    Way {
-        name: "plan",
-        words: &["--room", "255"],
-        behind: &[],
-        says: plan_of_map_alone,
-    },
-    Way {
-        name: "plan",
-        words: &[],
-        behind: &[255],
-        says: programs::plan,
-    },
-    Way {
-        name: "walk",
-        words: &[],
-        behind: &[],
-        says: programs::walk,
-    },
-    Way {
-        name: "change",
-        words: &[],
-        behind: &[],
-        says: programs::change,
-    },
-];
-
-fn plan_of_map_alone(input: &[u8]) -> Result<String, Refused> {
-    let options = Options {
-        room: Some(255),
-        ..Options::default()
-    };
-    Ok(planning::plan(input, &options)?.text)
-}
-
-impl Way {
-    fn compare(&self, built: &Programs, document: &Document) -> Option<Difference> {
-        let given = [&document.bytes, self.behind].concat();
-        let words: Vec<String> = self.words.iter().map(|word| word.to_string()).collect();
-        let expected = Expected::of(self.name, (self.says)(&given));
-        let title = format!("{} {}: {}", self.name, words.join(" "), document.title);
-        expected.compare(built.run(self.name, &words, &given), title, &given)
-    }
-}
+/// The programs that read a map and say what they read.
+const READERS: [&str; 3] = ["plan", "walk", "change"];
 
 /// At least so many documents are to be compared.
 const LEAST: usize = 3000;
 
-/// Gives all documents to the programs in all ways.
+/// Gives all documents to all readers.
 pub fn compare(built: &Programs, _root: &Path) -> Report {
     let documents = all();
     assert!(
@@ -89,9 +33,17 @@ pub fn compare(built: &Programs, _root: &Path) -> Report {
         documents.len()
     );
     Report::of(parallel::map(&documents, |document| {
-        WAYS.iter()
-            .map(|way| way.compare(built, document))
-            .collect()
+        let compare_one = |name| {
+            let program = programs::named(name).expect("the oracle has all programs");
+            let expected = Expected::of(name, program(&document.bytes));
+            let answer = built.run(name, &[], &document.bytes);
+            expected.compare(
+                answer,
+                format!("{name}: {}", document.title),
+                &document.bytes,
+            )
+        };
+        READERS.map(compare_one).into()
     }))
 }
 

@@ -8,20 +8,17 @@ use std::fmt::Display;
 pub enum Expected {
     /// Status 0, exactly this text, and nothing on standard error.
     Says(String),
-    /// Status 1, no text, and just this line on standard error.
+    /// Status 1, no text, and one line on standard error that begins like this.
     Refuses(String),
-    /// The same with a line that begins like this; its other words are the program's own.
-    RefusesWith(String),
-    /// Status 0, a text in which all of these are, and nothing on standard error.
-    Mentions(&'static [&'static str]),
 }
 
 impl Expected {
-    /// What the oracle answers in the place of the program `name`.
+    /// What the oracle answers in the place of the program `name`; a refusal shows the part of it
+    /// that the program has to say alike.
     pub fn of(name: &str, answer: Result<String, impl Display>) -> Expected {
         match answer {
             Ok(text) => Expected::Says(text),
-            Err(refused) => Expected::Refuses(format!("{name}: {refused}")),
+            Err(refusal) => Expected::Refuses(format!("{name}: {refusal}: ")),
         }
     }
 
@@ -51,14 +48,12 @@ impl Expected {
                     && answer.stdout == text.as_bytes()
                     && answer.stderr.is_empty()
             }
-            Expected::Refuses(line) => refused_line(answer) == Some(line.as_bytes()),
-            Expected::RefusesWith(beginning) => {
-                refused_line(answer).is_some_and(|line| line.starts_with(beginning.as_bytes()))
-            }
-            Expected::Mentions(parts) => {
-                let text = String::from_utf8_lossy(&answer.stdout);
-                let has_all = text.ends_with('\n') && parts.iter().all(|part| text.contains(part));
-                answer.status == Some(0) && has_all && answer.stderr.is_empty()
+            Expected::Refuses(beginning) => {
+                answer.status == Some(1)
+                    && answer.stdout.is_empty()
+                    && answer.stderr.starts_with(beginning.as_bytes())
+                    && answer.stderr.iter().position(|&byte| byte == b'\n')
+                        == answer.stderr.len().checked_sub(1)
             }
         }
     }
@@ -79,9 +74,7 @@ impl Expected {
                 );
                 return format!("    expected: status 0, stdout {ours}\n    found:    {found}");
             }
-            Expected::Refuses(line) => format!("status 1, the line: {line}"),
-            Expected::RefusesWith(beginning) => format!("status 1, a line: {beginning}…"),
-            Expected::Mentions(parts) => format!("status 0, a text with all of {parts:?}"),
+            Expected::Refuses(beginning) => format!("status 1, one line: {beginning}…"),
         };
         let found = format!(
             "status {status}, stdout {}, stderr {}",
@@ -90,13 +83,6 @@ impl Expected {
         );
         format!("    expected: {expected}\n    found:    {found}")
     }
-}
-
-/// The line on standard error of an answer that refuses: status 1, no text, one line.
-fn refused_line(answer: &Answer) -> Option<&[u8]> {
-    let line = answer.stderr.strip_suffix(b"\n")?;
-    let is_refusal = answer.status == Some(1) && answer.stdout.is_empty() && !line.contains(&b'\n');
-    is_refusal.then_some(line)
 }
 
 /// Two texts from the first word on in which they differ, to the end of that line.

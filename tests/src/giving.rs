@@ -1,18 +1,54 @@
 //! The ways to give a program its input: files, several files, standard input, and what goes wrong there.
 
 use crate::expected::Expected;
-use crate::folder::Folder;
 use crate::program::Programs;
 use crate::report::{Difference, Report};
 use oracle::generate::{generate, Kind};
-use oracle::map::Map;
 use oracle::programs;
 use oracle::writing::write_map;
-use std::path::Path;
+use std::fs;
+use std::path::{Path, PathBuf};
+
+/// The files that the words of a test may name, in a folder of their own.
+struct Files {
+    folder: PathBuf,
+}
+
+impl Files {
+    fn new() -> Files {
+        let folder = std::env::temp_dir().join(format!("waffryndel-files-{}", std::process::id()));
+        fs::create_dir_all(&folder).expect("a temporary folder can be made");
+        Files { folder }
+    }
+
+    fn path(&self, name: &str) -> String {
+        self.folder.join(name).display().to_string()
+    }
+
+    /// The word for a file of that name on the command line; `-` stays as it is.
+    fn word(&self, name: &str) -> String {
+        match name {
+            "-" => "-".to_string(),
+            _ => self.path(name),
+        }
+    }
+
+    fn write(&self, name: &str, bytes: &[u8]) -> String {
+        fs::write(self.folder.join(name), bytes).expect("a temporary file can be written");
+        self.path(name)
+    }
+}
+
+impl Drop for Files {
+    /// What is left behind in a temporary folder does no harm.
+    fn drop(&mut self) {
+        let _ = fs::remove_dir_all(&self.folder);
+    }
+}
 
 /// Compares every way of giving input, for every program.
 pub fn compare(built: &Programs, _root: &Path) -> Report {
-    let files = Folder::new();
+    let files = Files::new();
     let mut found = Vec::new();
     for (name, _) in programs::PROGRAMS {
         found.push(split_in_two(built, &files, name));
@@ -25,15 +61,6 @@ pub fn compare(built: &Programs, _root: &Path) -> Report {
     Report::of(found)
 }
 
-/// A map as the program is given it: for `plan` the room follows, so much that choosing is quick.
-fn input(name: &str, map: &Map) -> Vec<u8> {
-    let mut bytes = write_map(map);
-    if name == "plan" {
-        bytes.push(255);
-    }
-    bytes
-}
-
 /// What the oracle says to these bytes in the place of the program.
 fn expected(name: &str, bytes: &[u8]) -> Expected {
     let program = programs::named(name).expect("the oracle has all programs");
@@ -41,8 +68,8 @@ fn expected(name: &str, bytes: &[u8]) -> Expected {
 }
 
 /// A map in two files, parted at every byte; and a damaged one.
-fn split_in_two(built: &Programs, files: &Folder, name: &str) -> Vec<Option<Difference>> {
-    let whole = input(name, &generate(Kind::Ring, 1, 5, 5));
+fn split_in_two(built: &Programs, files: &Files, name: &str) -> Vec<Option<Difference>> {
+    let whole = write_map(&generate(Kind::Ring, 1, 5, 5));
     let mut damaged = whole.clone();
     damaged.swap(5, 11);
     let mut found = Vec::new();
@@ -64,9 +91,9 @@ fn split_in_two(built: &Programs, files: &Folder, name: &str) -> Vec<Option<Diff
 }
 
 /// One file, several files, `-` alone, twice and among files, and the largest map.
-fn mixed(built: &Programs, files: &Folder, name: &str) -> Vec<Option<Difference>> {
-    let bytes: &[u8] = &input(name, &generate(Kind::Grid, 1, 9, 0));
-    let large: &[u8] = &input(name, &generate(Kind::Random, 1, 512, 4096));
+fn mixed(built: &Programs, files: &Files, name: &str) -> Vec<Option<Difference>> {
+    let bytes: &[u8] = &write_map(&generate(Kind::Grid, 1, 9, 0));
+    let large: &[u8] = &write_map(&generate(Kind::Random, 1, 512, 4096));
     files.write("whole", bytes);
     files.write("empty", b"");
     files.write("first", &bytes[..7]);
@@ -86,11 +113,7 @@ fn mixed(built: &Programs, files: &Folder, name: &str) -> Vec<Option<Difference>
         (&["-"], large, large),
     ];
     let compare_one = |(words, input, given): (&[&str], &[u8], &[u8])| {
-        let named = |word: &&str| match *word {
-            "-" => "-".to_string(),
-            name => files.name(name),
-        };
-        let words: Vec<String> = words.iter().map(named).collect();
+        let words: Vec<String> = words.iter().map(|word| files.word(word)).collect();
         let title = format!("{name} {}", words.join(" "));
         expected(name, given).compare(built.run(name, &words, input), title, given)
     };
@@ -98,8 +121,8 @@ fn mixed(built: &Programs, files: &Folder, name: &str) -> Vec<Option<Difference>
 }
 
 /// A file for each byte of a map.
-fn byte_by_byte(built: &Programs, files: &Folder, name: &str) -> Vec<Option<Difference>> {
-    let bytes = input(name, &generate(Kind::Star, 1, 6, 0));
+fn byte_by_byte(built: &Programs, files: &Files, name: &str) -> Vec<Option<Difference>> {
+    let bytes = write_map(&generate(Kind::Star, 1, 6, 0));
     let write_one = |(at, byte)| files.write(&format!("byte{at}"), &[byte]);
     let words: Vec<String> = bytes.iter().copied().enumerate().map(write_one).collect();
     let answer = built.run(name, &words, b"");
@@ -108,7 +131,7 @@ fn byte_by_byte(built: &Programs, files: &Folder, name: &str) -> Vec<Option<Diff
 
 /// Standard input that comes in pieces, so that one read doesn't bring all.
 fn in_pieces(built: &Programs, name: &str) -> Vec<Option<Difference>> {
-    let bytes = input(name, &generate(Kind::Ties, 1, 200, 2000));
+    let bytes = write_map(&generate(Kind::Ties, 1, 200, 2000));
     let compare_one = |size: usize| {
         let pieces: Vec<&[u8]> = bytes.chunks(size).collect();
         let answer = built.run_in_pieces(name, &[], &pieces);
@@ -118,33 +141,33 @@ fn in_pieces(built: &Programs, name: &str) -> Vec<Option<Difference>> {
 }
 
 /// Files that aren't there or can't be read, and unknown options: one line, and status 1.
-fn unreadable(built: &Programs, files: &Folder, name: &str) -> Vec<Option<Difference>> {
-    let bytes = input(name, &generate(Kind::Path, 1, 3, 0));
-    let whole = files.write("whole", &bytes);
-    let (missing, folder) = (files.name("missing"), files.name("."));
-    let not_read = |file: &str| Expected::Refuses(format!("{name}: {file}: can't be read"));
-    // How the line ends is the matter of each program.
-    let unknown = |word: &str| Expected::RefusesWith(format!("{name}: {word}: unknown option"));
-    let ways: [(&[&str], Expected); 8] = [
-        (&[&missing], not_read(&missing)),
-        (&[&whole, &missing], not_read(&missing)),
-        (&[&missing, &folder], not_read(&missing)),
-        (&[&folder], not_read(&folder)),
-        (&["--what", &whole], unknown("--what")),
-        (&["-x", &whole], unknown("-x")),
-        (&[&whole, "--what"], unknown("--what")),
-        (&["--what"], unknown("--what")),
+fn unreadable(built: &Programs, files: &Files, name: &str) -> Vec<Option<Difference>> {
+    let bytes = write_map(&generate(Kind::Path, 1, 3, 0));
+    let (whole, missing) = (files.write("whole", &bytes), files.path("missing"));
+    let folder = files.folder.display().to_string();
+    let option = |word: &str| vec![word.to_string(), whole.clone()];
+    let ways = [
+        vec![missing.clone()],
+        vec![whole.clone(), missing],
+        vec![folder],
+        option("--what"),
+        option("-x"),
+        vec![whole.clone(), "--what".to_string()],
+        vec!["--what".to_string()],
     ];
-    let compare_one = |(words, expected): (&[&str], Expected)| {
-        let words: Vec<String> = words.iter().map(|word| word.to_string()).collect();
-        let title = format!("{name} {}", words.join(" "));
-        expected.compare(built.run(name, &words, &bytes), title, &bytes)
+    let compare_one = |words: Vec<String>| {
+        let refuses = Expected::Refuses(format!("{name}: "));
+        refuses.compare(
+            built.run(name, &words, &bytes),
+            format!("{name} {}", words.join(" ")),
+            &bytes,
+        )
     };
     ways.map(compare_one).into()
 }
 
 /// `rows --repeat` without a number, and with something else.
-fn bad_repeats(built: &Programs, files: &Folder) -> Vec<Option<Difference>> {
+fn bad_repeats(built: &Programs, files: &Files) -> Vec<Option<Difference>> {
     let bytes = write_map(&generate(Kind::Path, 1, 3, 0));
     let whole = files.write("whole", &bytes);
     let ways: [&[&str]; 4] = [
@@ -156,7 +179,7 @@ fn bad_repeats(built: &Programs, files: &Folder) -> Vec<Option<Difference>> {
     let compare_one = |words: &[&str]| {
         let words: Vec<String> = words.iter().map(|word| word.to_string()).collect();
         let title = format!("rows {}", words.join(" "));
-        Expected::RefusesWith("rows: ".to_string()).compare(
+        Expected::Refuses("rows: ".to_string()).compare(
             built.run("rows", &words, &bytes),
             title,
             &bytes,

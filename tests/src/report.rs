@@ -11,7 +11,6 @@ const SHOWN: usize = 8;
 const SHOWN_BYTES: usize = 96;
 
 /// One comparison that failed: what was given, and how the answers differ.
-#[derive(Clone)]
 pub struct Difference {
     pub title: String,
     pub input: Vec<u8>,
@@ -22,8 +21,8 @@ pub struct Difference {
 pub struct Report {
     documents: usize,
     compared: usize,
-    /// What is in the answers, where that is to be said.
-    held: Option<String>,
+    /// How many walks are in the answers, where a group has walks.
+    walks: Option<usize>,
     differences: Vec<Difference>,
 }
 
@@ -41,9 +40,9 @@ impl Report {
         report
     }
 
-    /// The report with what is in the answers.
-    pub fn with(mut self, held: String) -> Report {
-        self.held = Some(held);
+    /// The report with the number of walks that are in the answers.
+    pub fn with_walks(mut self, walks: usize) -> Report {
+        self.walks = Some(walks);
         self
     }
 
@@ -60,8 +59,8 @@ impl fmt::Display for Report {
     fn fmt(&self, out: &mut fmt::Formatter<'_>) -> fmt::Result {
         let (documents, compared) = (self.documents, self.compared);
         write!(out, "{documents} inputs, {compared} answers")?;
-        if let Some(held) = &self.held {
-            write!(out, " with {held}")?;
+        if let Some(walks) = self.walks {
+            write!(out, " with {walks} walks")?;
         }
         write!(out, ", {} different", self.different())?;
         for (index, difference) in self.differences.iter().take(SHOWN).enumerate() {

@@ -88,12 +88,12 @@ pub fn compare(built: &Programs, root: &Path) -> Report {
     maps.extend(stars());
     maps.extend(worked_cases(&mut random));
     maps.extend(generated(&mut random));
-    let walks: usize = maps.iter().map(Given::walks).sum();
+    let walks = maps.iter().map(Given::walks).sum();
     assert!(walks >= LEAST, "only {walks} walks");
     let mut found = parallel::map(&maps, |given| given.compare(built));
     found.push(refused_landmarks(built));
     found.push(refused_maps(built));
-    Report::of(found).with(format!("{walks} walks"))
+    Report::of(found).with_walks(walks)
 }
 
 /// The maps in examples/, given as files.
@@ -179,13 +179,13 @@ fn refused_landmarks(built: &Programs) -> Vec<Option<Difference>> {
         for more in [vec![], vec!["--posts".to_string()]] {
             let words = [vec!["--landmarks".to_string(), list.to_string()], more].concat();
             let title = format!("walk {}", words.join(" "));
-            let refuses = Expected::RefusesWith(beginning.to_string());
+            let refuses = Expected::Refuses(beginning.to_string());
             found.push(refuses.compare(built.run("walk", &words, &bytes), title, &bytes));
         }
     }
     let alone = ["--landmarks".to_string()];
     let answer = built.run("walk", &alone, &bytes);
-    found.push(Expected::RefusesWith("walk: ".to_string()).compare(answer, alone.concat(), &bytes));
+    found.push(Expected::Refuses("walk: ".to_string()).compare(answer, alone.concat(), &bytes));
     found
 }
 

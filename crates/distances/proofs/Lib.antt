@@ -1,11 +1,8 @@
 pub mod Trees
 pub mod Following
-pub mod Ordering
 pub mod Searching
 pub mod Turns
 pub mod Numbers
 pub mod RowsOf
-pub mod Ranks
 pub mod Surveyed
 pub mod FirstArcs
-pub mod LowestApart

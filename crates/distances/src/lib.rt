@@ -1,7 +1,6 @@
 // Distances and next places: one row, all rows, whether a map hangs together, and a map surveyed.
 mod dijkstra;
 pub mod joined;
-pub mod lent;
 mod nexts;
 mod queue;
 pub mod rows;
@@ -9,4 +8,3 @@ pub mod survey;
 pub mod surveying;
 #[cfg(test)]
 mod tests;
-pub mod unreached;

@@ -67,19 +67,15 @@ fn one_place_and_two(rt: HostRuntime) -> Result<(), Fail> {
     let one = lay(rt.alloc(), 1, &[])?;
     let mut dist = [7u32; 1];
     let mut next = [7u16; 1];
-    let mut order = [7u16; 1];
-    assert!(rt; all_rows(&one.map(), &mut dist, &mut next, &mut order).is_ok());
+    assert!(rt; all_rows(&one.map(), &mut dist, &mut next).is_ok());
     assert_eq!(rt; dist, [0]);
     assert_eq!(rt; next, [NOWHERE]);
-    assert_eq!(rt; order, [0]);
     let two = lay(rt.alloc(), 2, &[road(0, 1, 9)])?;
     let mut far = [7u32; 4];
     let mut hop = [7u16; 4];
-    let mut places = [7u16; 4];
-    assert!(rt; all_rows(&two.map(), &mut far, &mut hop, &mut places).is_ok());
+    assert!(rt; all_rows(&two.map(), &mut far, &mut hop).is_ok());
     assert_eq!(rt; far, [0, 9, 9, 0]);
     assert_eq!(rt; hop, [NOWHERE, 0, 1, NOWHERE]);
-    assert_eq!(rt; places, [0, 1, 1, 0]);
     Ok(())
 }
 
@@ -124,13 +120,11 @@ fn other_sizes_are_refused(rt: HostRuntime) -> Result<(), Fail> {
     );
     let mut far = [7u32; 4];
     let mut hop = [7u16; 3];
-    let mut order = [7u16; 4];
     assert_eq!(rt;
-        all_rows(&map.map(), &mut far, &mut hop, &mut order).err(),
+        all_rows(&map.map(), &mut far, &mut hop).err(),
         Some(Fault::Range)
     );
     assert_eq!(rt; far, [7, 7, 7, 7]);
-    assert_eq!(rt; order, [7, 7, 7, 7]);
     Ok(())
 }
 

@@ -8,20 +8,33 @@ use Rattle.maps.proofs.RoadLists.{road_sound}
 use Rattle.reading.specs.declared.kinds.Place.{Place}
 use Rattle.reading.specs.Reading.{Got, then, one, many, fresh}
 use Rattle.reading.specs.Roads.{road_shape, road_bytes}
-use Rattle.reading.specs.Laws.{Fits}
-use Rattle.reading.proofs.Fitting.{Written, one_fits, one_faultless, then_got}
+use Rattle.reading.proofs.Fitting.{Fits, Written, one_fits, one_faultless, then_got}
 use Rattle.reading.proofs.Series.{seq_fits, many_each}
 use Rattle.reading.proofs.RoadRecords.{roads_fit}
 use Rattle.reading.proofs.Decoded.{spread_all, word_bytes, bytes_word, passed, pass, positive}
 use Rattle.documents.specs.declared.kinds.MapHead.{MapHead}
+use Rattle.documents.specs.declared.kinds.Kind.TheVariants.{Map, Plan, Change, Walk}
 use Rattle.documents.specs.Kinds.{kind_of, is_map}
-use Rattle.documents.proofs.KindBytes.{is_map_lem}
 use Rattle.documents.specs.Maps.{Charted, head_of, head_fault, head_shape, head_bytes, head_in, read_roads, write_map}
 
 -- a first record from its fields
 head_is : (h : MapHead) {a b c : ℕ} → a ≡ h.kind → b ≡ h.places → c ≡ h.roads → record { kind = a; places = b; roads = c } ≡ h
 head_is h {a} {b} {c} p q s =
     ap (λ x. record { kind = x; places = b; roads = c }) p ∙ ap (λ x. record { kind = h.kind; places = x; roads = c }) q ∙ ap (λ x. record { kind = h.kind; places = h.places; roads = x }) s
+
+-- only byte 1 begins a map
+no_map : (byte : ℕ) (b : Bool) → is_map (cond b (Some Plan) (cond (eqb byte 3) (Some Change) (cond (eqb byte 4) (Some Walk) None))) ≡ false
+no_map byte true = refl
+no_map byte false =
+    elim (eqb byte 3) as (λ z. is_map (cond z (Some Change) (cond (eqb byte 4) (Some Walk) None)) ≡ false) [
+      | true ↦ refl
+      | false ↦ elim (eqb byte 4) as (λ z. is_map (cond z (Some Walk) None) ≡ false) [ true ↦ refl | false ↦ refl ]
+    ]
+
+is_map_lem : (byte : ℕ) (b : Bool) → b ≡ eqb byte 1
+    → is_map (cond b (Some Map) (cond (eqb byte 2) (Some Plan) (cond (eqb byte 3) (Some Change) (cond (eqb byte 4) (Some Walk) None)))) ≡ true → byte ≡ 1
+is_map_lem byte true d e = eqb-true byte 1 (sym d)
+is_map_lem byte false d e = let h = no_map byte (eqb byte 2) in let z : ◌≡◌ {A = ℕ} 0 1 = cc in absurd (omega arith)
 
 -- The first record of a map that can be written.
 record SoundHead (h : MapHead) : Type 0 where
@@ -37,7 +50,7 @@ head_sound h e =
     let o = or_parts _ _ y.0 in
     let o' = or_parts _ _ o.0 in
     record {
-      kind = is_map_lem h.kind (not-false _ x.0);
+      kind = is_map_lem h.kind (eqb h.kind 1) refl (not-false _ x.0);
       some = positive _ o'.0;
       few = ltb-false _ _ o'.1;
       short = ltb-false _ _ o.1;

@@ -12,14 +12,20 @@ use Rattle.reading.specs.declared.kinds.Stop.{Stop}
 use Rattle.reading.specs.Telling.{Tells}
 use Rattle.reading.proofs.Steps.{tells_got}
 use Rattle.reading.proofs.Closing.{close_trip, close_back, close_cut}
-use Rattle.reading.proofs.Wholes.{from_start, none_true}
 use Rattle.documents.specs.Maps.{Charted, read_roads, apart, last_fault, read_whole_map, write_map}
 use Rattle.documents.specs.Laws.{Sound, ComesBack, ComesBackWhole, GoesBack, GoesBackWhole, CutIsTold}
 use Rattle.documents.proofs.Charts.{SoundMap, chart_fits}
 
+from_start : {x : Read Charted} {m : Charted} (k : ℕ) → Reads x m (0 + k) → Reads x m k
+from_start k r = let e = r.2 in (r.0, r.1, omega arith)
+
 -- what is told at the end of a map that something else may follow
 abbrev end_fault : List ℕ → Charted → Place → Option Fault
 end_fault bytes m p = apart m
+
+none_true : (f : Fault) (b : Bool) → cond b None (Some f) ≡ None → b ≡ true
+none_true f true e = refl
+none_true f false e = let z : ◌≡◌ {A = ℕ} 0 1 = cc in absurd (omega arith)
 
 fair : (m : Charted) → Sound m → apart m ≡ None
 fair m v = ap (λ (b : Bool). cond b None (Some Apart)) v.whole

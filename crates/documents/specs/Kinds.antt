@@ -16,24 +16,3 @@ is_map (Some Map) = true
 is_map (Some Plan) = false
 is_map (Some Change) = false
 is_map (Some Walk) = false
-
-abbrev pub is_plan : Option Kind → Bool
-is_plan None = false
-is_plan (Some Map) = false
-is_plan (Some Plan) = true
-is_plan (Some Change) = false
-is_plan (Some Walk) = false
-
-abbrev pub is_change : Option Kind → Bool
-is_change None = false
-is_change (Some Map) = false
-is_change (Some Plan) = false
-is_change (Some Change) = true
-is_change (Some Walk) = false
-
-abbrev pub is_walk : Option Kind → Bool
-is_walk None = false
-is_walk (Some Map) = false
-is_walk (Some Plan) = false
-is_walk (Some Change) = false
-is_walk (Some Walk) = true

@@ -1,21 +1,15 @@
 -- The laws of map documents, each as a type; a proof of the type is the theorem. Assumes nothing.
-use Rattle.std.specs.Prelude.{◌≡◌, ℕ, ◌<◌, ◌≤◌, true, List, ◌++◌, length, drop}
+use Rattle.std.specs.Prelude.{◌≡◌, ℕ, ◌<◌, true, List, ◌++◌, length, drop}
 use Rattle.ways.specs.Ways.{hangs_together}
 use Rattle.maps.specs.Roads.{map_of, SoundRoads}
 use Rattle.reading.specs.declared.kinds.Place.{Place}
 use Rattle.reading.specs.Reading.{Got, start, Bytes, Cut, Reads}
 use Rattle.documents.specs.Maps.{Charted, read_map, read_whole_map, write_map}
-use Rattle.documents.specs.Rooms.{Asked}
 
 -- A map without a fault, that hangs together.
 pub record Sound (m : Charted) : Type 0 where
   pub roads : SoundRoads m.places m.roads
   pub whole : hangs_together (map_of m.places m.roads) ≡ true
-
--- A sound map, and room for 8 lines at least.
-pub record SoundAsked (a : Asked) : Type 0 where
-  pub map : Sound a.map
-  pub room : 8 ≤ a.room
 
 -- Every sound map, once written, is read again, whatever comes after it.
 abbrev pub ComesBack : Type 0

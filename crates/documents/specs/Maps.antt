@@ -34,7 +34,7 @@ abbrev pub head_fault : MapHead → Option Fault
 head_fault h = cond (not (is_map (kind_of h.kind))) (Some Form) (size_fault h.places h.roads)
 
 abbrev pub head_shape : Shape MapHead
-head_shape = record { sort = Header; size = 5; value = λ _. head_of; fault = λ _ _. head_fault }
+head_shape = record { sort = Header; size = 5; value = head_of; fault = λ _ _. head_fault }
 
 -- Before the first record is read no place is known: n is 0 there.
 abbrev pub read_roads : List ℕ → Place → Read Charted

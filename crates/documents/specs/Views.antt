@@ -3,17 +3,11 @@ use Rattle.std.specs.Prelude.{◌≡◌, Ok, Err, vec_items, Result}
 use Rattle.maps.specs.declared.buf.RoadMapBuf.{RoadMapBuf}
 use Rattle.reading.specs.declared.kinds.Stop.{Stop}
 use Rattle.reading.specs.declared.kinds.Stop.TheVariants.{Memory}
-use Rattle.documents.specs.declared.kinds.MapAndRoom.{MapAndRoom}
 use Rattle.documents.specs.Maps.{Charted}
-use Rattle.documents.specs.Rooms.{Asked}
 
 -- a map in memory, as it is written
 abbrev pub charted : RoadMapBuf → Charted
 charted b = record { places = b.n; roads = vec_items b.roads }
-
--- a map and a room in memory, as they are written
-abbrev pub asked : MapAndRoom → Asked
-asked b = record { map = charted b.map; room = b.room }
 
 -- a map without a fault is built, unless memory runs out
 abbrev pub Built : Charted → Result RoadMapBuf Stop → Type 0

@@ -1,8 +1,8 @@
 // The kind of a document and the first record of a map: what their bytes mean, and what is wrong with them.
-ghost use Rattle.std.specs.Prelude.{◌≡◌, length};
+ghost use Rattle.std.specs.Prelude.{◌≡◌};
 ghost use Rattle.reading.specs.Writing.{Wrote};
 ghost use Rattle.documents.specs.Kinds.{kind_of};
-ghost use Rattle.documents.specs.Maps.{head_of, head_fault, head_shape, head_bytes};
+ghost use Rattle.documents.specs.Maps.{head_fault, head_shape, head_bytes};
 
 use super::kinds::{Kind, MapHead};
 use maps::kinds::Fault;
@@ -40,12 +40,7 @@ impl MapHead {
     }
 }
 
-/// The sort of record that the first record of a map is.
-pub struct HeadRecord;
-
-impl Recorded for HeadRecord {
-    type Value = MapHead;
-
+impl Recorded for MapHead {
     ghost shape = { head_shape };
 
     fn sort() -> Record {
@@ -56,10 +51,7 @@ impl Recorded for HeadRecord {
         5
     }
 
-    fn decode(part: &[u8], _last: Option<MapHead>) -> MapHead
-        requires { length part.now ≡ 5 }
-        ensures { result ≡ head_of part.now }
-    {
+    fn decode(part: &[u8]) -> MapHead {
         MapHead {
             kind: part[0],
             places: word_at(part, 1),
@@ -67,30 +59,21 @@ impl Recorded for HeadRecord {
         }
     }
 
-    fn judge(head: MapHead, _n: u16, _last: Option<MapHead>) -> Option<Fault>
-        ensures { result ≡ head_fault head }
+    fn judge(self, _n: u16, _last: Option<MapHead>) -> Option<Fault>
+        ensures { result ≡ head_fault self }
     {
-        head.fault()
+        self.fault()
     }
 }
 
-// The bytes of the first record of a map.
-fn encode(head: MapHead) -> [u8; 5]
-    ensures { result ≡ head_bytes head }
-{
-    let [places_high, places_low] = head.places.to_be_bytes();
-    let [roads_high, roads_low] = head.roads.to_be_bytes();
-    [head.kind, places_high, places_low, roads_high, roads_low]
-}
-
-impl Put for HeadRecord {
-    type Item = MapHead;
-
+impl Put for MapHead {
     ghost writes = { head_bytes };
 
-    fn put(out: &mut Vec<u8>, head: &MapHead) -> Result<(), AllocError>
-        ensures { Wrote out.old.items (head_bytes head.now) result out.new.items }
+    fn put(self, out: &mut Vec<u8>) -> Result<(), AllocError>
+        ensures { Wrote out.old.items (head_bytes self) result out.new.items }
     {
-        out.extend_from_slice(&encode(*head))
+        let [places_high, places_low] = self.places.to_be_bytes();
+        let [roads_high, roads_low] = self.roads.to_be_bytes();
+        out.extend_from_slice(&[self.kind, places_high, places_low, roads_high, roads_low])
     }
 }

@@ -1,5 +1,4 @@
-// The kinds of documents, the first record of a map, and what planning is asked for.
-use maps::buf::RoadMapBuf;
+// The kinds of documents, and the first record of a map.
 
 /// The kinds of documents.
 #[derive(Clone, Copy, PartialEq, Eq, Debug)]
@@ -20,11 +19,4 @@ pub struct MapHead {
     pub kind: u8,
     pub places: u16,
     pub roads: u16,
-}
-
-/// A map, and for how many lines a post is to have room.
-#[derive(Drop)]
-pub struct MapAndRoom {
-    pub map: RoadMapBuf,
-    pub room: u8,
 }

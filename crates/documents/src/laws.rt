@@ -1,8 +1,6 @@
-// The laws of maps, and of a map and a room: theorems, on the contracts of functions.
+// The laws of map documents: theorems, on the contract of a function.
 ghost use Rattle.std.specs.Prelude.{◌≡◌};
-ghost use Rattle.documents.specs.Laws.{ComesBack, ComesBackWhole, GoesBack, GoesBackWhole, CutIsTold, SoundAsked};
-ghost use Rattle.documents.specs.Rooms.{read_asked, write_asked};
-ghost use Rattle.reading.specs.Laws.{Fits, FitsWhole};
+ghost use Rattle.documents.specs.Laws.{ComesBack, ComesBackWhole, GoesBack, GoesBackWhole, CutIsTold};
 
 /// The laws of writing maps and reading them; how many there are.
 pub fn map_laws() -> u8
@@ -14,13 +12,4 @@ pub fn map_laws() -> u8
     ensures cut { CutIsTold }
 {
     5
-}
-
-/// The laws of writing a map and a room and reading them; how many there are.
-pub fn asked_laws() -> u8
-    ensures count { result ≡ 2 }
-    ensures fits { Fits read_asked write_asked SoundAsked }
-    ensures whole { FitsWhole read_asked write_asked SoundAsked }
-{
-    2
 }

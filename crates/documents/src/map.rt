@@ -6,14 +6,13 @@ ghost use Rattle.reading.specs.Telling.{Tells, Told};
 ghost use Rattle.documents.specs.Maps.{read_roads, read_map, read_last_map, read_whole_map, apart, last_fault, write_map};
 ghost use Rattle.documents.specs.Views.{charted, Built};
 
-use super::heads::HeadRecord;
+use super::kinds::MapHead;
 use distances::joined::hangs_together;
 use maps::buf::RoadMapBuf;
 use maps::kinds::{Fault, Road};
 use reading::kinds::Stop;
 use reading::reader::Reader;
 use reading::records::{read_record, read_records};
-use reading::roads::RoadRecord;
 use std::alloc::Global;
 
 // The map of roads that were read without a fault: only memory can run out.
@@ -54,13 +53,13 @@ fn fault_of_last(from: &Reader<'_>, map: &RoadMapBuf) -> Option<Fault>
 }
 
 // The first record and the roads of the map that begins here.
-pub(crate) fn roads_at(heap: Global, from: &mut Reader<'_>) -> Result<RoadMapBuf, Stop>
+fn roads_at(heap: Global, from: &mut Reader<'_>) -> Result<RoadMapBuf, Stop>
     ensures told { Told charted (read_roads from.old.bytes.now from.old.at) result from.new.at }
     ensures same { from.new.bytes.now ≡ from.old.bytes.now }
 {
-    let head = read_record::<HeadRecord>(from, 0, None)?;
+    let head = read_record::<MapHead>(from, 0, None)?;
     from.begin();
-    let roads = read_records::<RoadRecord>(heap, from, head.places, head.roads)?;
+    let roads = read_records::<Road>(heap, from, head.places, head.roads)?;
     let map = built(heap, head.places, roads)?;
     Ok(map)
 }

@@ -1,6 +1,5 @@
-// A small map read and written, a map and a room, and each fault at its first and its last place.
+// A small map read and written, and each fault at its first and its last place.
 use super::map::read_map;
-use super::room::read_map_and_room;
 use super::writing::write_map;
 use maps::kinds::Fault;
 use reading::kinds::{Place, Record, Refusal, Stop};
@@ -124,33 +123,5 @@ fn ends_are_refused(rt: HostRuntime) {
     assert_eq!(rt;
         read_map(rt.alloc(), &[1, 0, 2, 0, 0, 9]).err(),
         refused(Fault::Form, Record::End, 0, 5)
-    );
-}
-
-#[test]
-fn a_map_and_a_room(rt: HostRuntime) -> Result<(), Fail> {
-    let both = read_map_and_room(rt.alloc(), &[1, 0, 2, 0, 1, 0, 0, 0, 1, 0, 5, 8])?;
-    assert_eq!(rt; both.map.len(), 2);
-    assert_eq!(rt; both.room, 8);
-    Ok(())
-}
-
-#[test]
-fn rooms_are_refused(rt: HostRuntime) {
-    assert_eq!(rt;
-        read_map_and_room(rt.alloc(), &[1, 0, 2, 0, 1, 0, 0, 0, 1, 0, 5]).err(),
-        refused(Fault::Form, Record::Room, 0, 11)
-    );
-    assert_eq!(rt;
-        read_map_and_room(rt.alloc(), &[1, 0, 2, 0, 1, 0, 0, 0, 1, 0, 5, 7, 7]).err(),
-        refused(Fault::Range, Record::Room, 0, 11)
-    );
-    assert_eq!(rt;
-        read_map_and_room(rt.alloc(), &[1, 0, 2, 0, 1, 0, 0, 0, 1, 0, 5, 8, 8]).err(),
-        refused(Fault::Form, Record::End, 0, 12)
-    );
-    assert_eq!(rt;
-        read_map_and_room(rt.alloc(), &[1, 0, 2, 0, 0, 7]).err(),
-        refused(Fault::Apart, Record::End, 0, 5)
     );
 }

@@ -4,10 +4,9 @@ ghost use Rattle.reading.specs.Writing.{Wrote};
 ghost use Rattle.documents.specs.Maps.{write_map};
 ghost use Rattle.documents.specs.Views.{charted};
 
-use super::heads::HeadRecord;
 use super::kinds::MapHead;
 use maps::buf::RoadMapBuf;
-use reading::roads::RoadRecord;
+use maps::kinds::Road;
 use reading::writer::{Put, put_all};
 use std::alloc::AllocError;
 
@@ -22,8 +21,8 @@ pub fn write_map(out: &mut Vec<u8>, map: &RoadMapBuf) -> Result<(), AllocError>
         places: map.len(),
         roads: roads.len() as u16,
     };
-    HeadRecord::put(out, &head)?;
-    if let Err(error) = put_all::<RoadRecord>(out, roads) {
+    head.put(out)?;
+    if let Err(error) = put_all::<Road>(out, roads) {
         out.truncate(old);
         return Err(error);
     }

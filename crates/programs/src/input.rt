@@ -1,8 +1,5 @@
 // The input of a program: the bytes of its files one after the other, or of standard input.
-use super::kinds::Ended;
-use super::messages::complain;
-use options::items::items_in;
-use options::kinds::Item;
+use super::messages::{Ended, complain};
 use std::io::Read;
 use std::{env, fs};
 
@@ -39,61 +36,31 @@ fn add_file(rt: &HostRuntime, program: &str, name: &str, bytes: &mut Vec<u8>) ->
     Ok(())
 }
 
-/// Says that a word is no option of the program.
-pub fn unknown_option(rt: &HostRuntime, program: &str, word: &str) -> Ended {
-    let _ = eprintln!(rt; "{program}: {word}: unknown option; see {program} --help");
+fn unknown_option(rt: &HostRuntime, program: &str, word: &str) -> Ended {
+    let _ = eprintln!(rt;
+        "{program}: {word}: unknown option; it takes names of files, or - for standard input"
+    );
     Ended
 }
 
-/// The options and files that the words of a command line are; the options of `takes` want a word behind them.
-pub fn items_of<'a>(
-    rt: &HostRuntime,
-    program: &str,
-    takes: &[&str],
-    words: &'a [String],
-) -> Result<Vec<Item<'a>>, Ended> {
-    match items_in(rt.alloc(), takes, words) {
-        Ok(items) => Ok(items),
-        Err(_) => Err(complain(rt, program, "no memory")),
-    }
-}
-
-fn add_source(
-    rt: &HostRuntime,
-    program: &str,
-    name: &str,
-    bytes: &mut Vec<u8>,
-) -> Result<(), Ended> {
-    if name == "-" {
+fn add_word(rt: &HostRuntime, program: &str, word: &str, bytes: &mut Vec<u8>) -> Result<(), Ended> {
+    if word == "-" {
         return add_standard_input(rt, program, bytes);
     }
-    add_file(rt, program, name, bytes)
+    if word.starts_with("-") {
+        return Err(unknown_option(rt, program, word));
+    }
+    add_file(rt, program, word, bytes)
 }
 
-/// The bytes of the files among some items, one after the other; `-` is standard input, and so is no file at all.
-pub fn input_of(rt: &HostRuntime, program: &str, items: &[Item<'_>]) -> Result<Vec<u8>, Ended> {
+/// The bytes of the files that `words` names, one after the other; `-` is standard input, and so is no word at all.
+pub fn input(rt: &HostRuntime, program: &str, words: &[String]) -> Result<Vec<u8>, Ended> {
     let mut bytes = Vec::new(rt.alloc());
-    let mut any = false;
-    for item in items {
-        if let Item::File(name) = *item {
-            any = true;
-            add_source(rt, program, name, &mut bytes)?;
-        }
-    }
-    if !any {
+    if words.is_empty() {
         add_standard_input(rt, program, &mut bytes)?;
     }
-    Ok(bytes)
-}
-
-/// The same for words that may name files, and no options.
-pub fn input(rt: &HostRuntime, program: &str, words: &[String]) -> Result<Vec<u8>, Ended> {
-    // no option is the empty word, so none wants a word behind it
-    let items = items_of(rt, program, &[""], words)?;
-    for item in items.as_slice() {
-        if let Item::Plain(word) = *item {
-            return Err(unknown_option(rt, program, word));
-        }
+    for word in words {
+        add_word(rt, program, word.as_str(), &mut bytes)?;
     }
-    input_of(rt, program, items.as_slice())
+    Ok(bytes)
 }

@@ -1,7 +1,6 @@
 // A map that other documents follow in the same input: read, and said what follows.
-use super::input::input;
-use super::kinds::Ended;
-use super::messages::{complain, refuse};
+use super::input::{input, words};
+use super::messages::{Ended, complain, refuse};
 use documents::map::map_at;
 use maps::buf::RoadMapBuf;
 use reading::kinds::Stop;
@@ -27,10 +26,11 @@ fn show(rt: &HostRuntime, program: &str, map: &RoadMapBuf, left: usize) -> Resul
 }
 
 /// Reads the input of a program that begins with a map, and says what it read.
-pub fn show_leading_map(rt: &HostRuntime, program: &str, given: &[String]) -> Result<(), Ended> {
-    let bytes = input(rt, program, given)?;
+pub fn show_leading_map(rt: &HostRuntime, program: &str) -> Result<(), Ended> {
+    let given = words(rt, program)?;
+    let bytes = input(rt, program, given.as_slice())?;
     match read_leading_map(rt, bytes.as_slice()) {
         Ok((map, left)) => show(rt, program, &map, left),
-        Err(stop) => Err(refuse(rt, program, &bytes, stop)),
+        Err(stop) => Err(refuse(rt, program, stop)),
     }
 }

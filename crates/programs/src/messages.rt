@@ -1,16 +1,16 @@
 // What a program says of a fault, of a record, and of an input that it refuses.
 ghost use Rattle.std.specs.Prelude.{◌≡◌};
-ghost use Rattle.programs.specs.Words.{fault_words, record_name};
+ghost use Rattle.programs.specs.Words.{record_name};
 
-use super::found::found_in;
-use super::kinds::Ended;
 use maps::kinds::Fault;
 use reading::kinds::{Record, Refusal, Stop};
 
+/// A program ends without having done its work, and has said why.
+#[derive(Clone, Copy)]
+pub struct Ended;
+
 /// A fault in words.
-pub fn words_of(fault: Fault) -> &'static str
-    ensures { result.now ≡ fault_words fault }
-{
+pub fn words_of(fault: Fault) -> &'static str {
     match fault {
         Fault::Form => "an unknown kind, a record that is cut, or bytes left over",
         Fault::Range => "a number out of its range, or a place that isn't there",
@@ -31,36 +31,24 @@ pub fn name_of(sort: Record) -> &'static str
     match sort {
         Record::Header => "header",
         Record::Road => "road",
-        Record::Landmark => "landmark",
-        Record::Post => "post",
-        Record::Line => "line",
-        Record::Card => "card",
-        Record::Room => "room",
-        Record::Change => "change",
-        Record::Walk => "walk",
         Record::End => "end",
     }
 }
 
-fn refuse_input(rt: &HostRuntime, program: &str, bytes: &[u8], refusal: Refusal) -> Ended {
-    let Ok(found) = found_in(rt.alloc(), bytes, refusal) else {
-        return complain(rt, program, "no memory");
-    };
-    let Ok(words) = found.words(rt.alloc()) else {
-        return complain(rt, program, "no memory");
-    };
+fn refuse_input(rt: &HostRuntime, program: &str, refusal: Refusal) -> Ended {
     let number = refusal.fault.number();
     let name = name_of(refusal.record);
     let index = refusal.at.index;
     let byte = refusal.at.byte;
+    let words = words_of(refusal.fault);
     let _ = eprintln!(rt; "{program}: fault {number}: {name} {index} at byte {byte}: {words}");
     Ended
 }
 
-/// Says on standard error, in one line, why reading an input stopped that begins with a map.
-pub fn refuse(rt: &HostRuntime, program: &str, bytes: &[u8], stop: Stop) -> Ended {
+/// Says on standard error why reading stopped, in one line.
+pub fn refuse(rt: &HostRuntime, program: &str, stop: Stop) -> Ended {
     match stop {
-        Stop::Input(refusal) => refuse_input(rt, program, bytes, refusal),
+        Stop::Input(refusal) => refuse_input(rt, program, refusal),
         Stop::Memory => complain(rt, program, "no memory"),
     }
 }

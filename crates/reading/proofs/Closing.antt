@@ -3,8 +3,7 @@ use Rattle.std.proofs.Common.{◌≡◌, ℕ, ◌+◌, ◌<◌, List, ◌++◌, 
 use Rattle.maps.specs.declared.kinds.Fault.{Fault}
 use Rattle.reading.specs.declared.kinds.Place.{Place}
 use Rattle.reading.specs.Reading.{Read, Got, then, fresh, closed, Bytes, Cut, Reads}
-use Rattle.reading.specs.Laws.{Fits}
-use Rattle.reading.proofs.Fitting.{then_got, then_cut}
+use Rattle.reading.proofs.Fitting.{Fits, then_got, then_cut}
 
 closed_got : {A : Type 0} (f : Option Fault) (v a : A) (p next : Place) → closed f v p ≡ Got a next → (f ≡ None) × (v ≡ a) × (fresh p ≡ next)
 closed_got None v a p next e = (refl, cc, cc)
@@ -35,12 +34,3 @@ module _ {A : Type 0} (r : List ℕ → Place → Read A) (write : A → List �
   pub close_cut : (bytes s t : List ℕ) (at : Place) (a : A) → Valid a → drop at.byte bytes ≡ s → write a ≡ s ++ t → 0 < length t
       → Cut (then (r bytes at) (λ b p. closed (fault bytes b p) b p))
   close_cut bytes s t at a v e k l = then_cut (r bytes at) (λ b p. closed (fault bytes b p) b p) (fits.cut bytes s t at a v e k l)
-
--- Closing by what is wrong with the value alone keeps the fit.
-pub close_fits : {A : Type 0} (r : List ℕ → Place → Read A) (write : A → List ℕ) (Valid : A → Type 0) → Fits r write Valid → (fault : A → Option Fault)
-    → Fits (λ bytes at. then (r bytes at) (λ b p. closed (fault b) b p)) write (λ a. Valid a × (fault a ≡ None))
-close_fits r write Valid fits fault = record {
-  trip = λ bytes rest at a v e. close_trip r write Valid fits (λ _ b _. fault b) bytes rest at a v.0 (λ p h. v.1) e;
-  back = λ bytes all at next a e. let b = close_back r write Valid fits (λ _ b _. fault b) bytes all at next a e in ((b.0, b.3), b.1);
-  cut = λ bytes s t at a v e k l. close_cut r write Valid fits (λ _ b _. fault b) bytes s t at a v.0 e k l;
-}

@@ -7,23 +7,31 @@ use Rattle.maps.specs.declared.kinds.Fault.TheVariants.{Form}
 use Rattle.reading.specs.declared.kinds.Place.{Place}
 use Rattle.reading.specs.declared.kinds.Record.{Record}
 use Rattle.reading.specs.declared.kinds.Refusal.{Refusal}
-use Rattle.reading.specs.Laws.{Fits}
 use Rattle.reading.specs.Reading.{Read, Got, Bad, Shape, then, one, judged, refuse, after, Bytes, Cut, Reads}
+
+-- What is written is read, what is read was written, and what is cut is refused for its form. All three speak of what is left at a place.
+pub record Fits {A : Type 0} (read : List ℕ → Place → Read A) (write : A → List ℕ) (Valid : A → Type 0) : Type 0 where
+  pub trip : (bytes rest : List ℕ) (at : Place) (a : A) → Valid a → drop at.byte bytes ≡ write a ++ rest
+      → Reads (read bytes at) a (at.byte + length (write a))
+  pub back : (bytes : List ℕ) → Bytes bytes → (at next : Place) (a : A) → read bytes at ≡ Got a next
+      → Valid a × (drop at.byte bytes ≡ write a ++ drop next.byte bytes)
+  pub cut : (bytes s t : List ℕ) (at : Place) (a : A) → Valid a → drop at.byte bytes ≡ s → write a ≡ s ++ t → 0 < length t
+      → Cut (read bytes at)
 
 -- what is left after what was written
 pub past : (bytes w rest : List ℕ) (at next : ℕ) → drop at bytes ≡ w ++ rest → next ≡ at + length w → drop next bytes ≡ rest
 past bytes w rest at next e f =
     ap (λ n. drop n bytes) f ∙ sym (drop-drop (length w) at bytes) ∙ ap (drop (length w)) e ∙ drop_at w rest (length w) refl
 
--- What one sort of record owes where it is held to n, after the record `last`.
+-- What one sort of record owes, in a map of n places and after the record `last`.
 pub record Written {A : Type 0} (shape : Shape A) (n : ℕ) (last : Option A) (write : A → List ℕ) (Valid : A → Type 0) : Type 0 where
   pub some : 0 < shape.size
   pub wide : (a : A) → length (write a) ≡ shape.size
-  pub told : (a : A) → Valid a → shape.value last (write a) ≡ a
+  pub told : (a : A) → Valid a → shape.value (write a) ≡ a
   pub fair : (a : A) → Valid a → shape.fault n last a ≡ None
   pub sure : (bs : List ℕ) → length bs ≡ shape.size → ((k : ℕ) → k < shape.size → get_or bs k 0 < 256)
-      → shape.fault n last (shape.value last bs) ≡ None → Valid (shape.value last bs)
-  pub same : (bs : List ℕ) → length bs ≡ shape.size → ((k : ℕ) → k < shape.size → get_or bs k 0 < 256) → write (shape.value last bs) ≡ bs
+      → shape.fault n last (shape.value bs) ≡ None → Valid (shape.value bs)
+  pub same : (bs : List ℕ) → length bs ≡ shape.size → ((k : ℕ) → k < shape.size → get_or bs k 0 < 256) → write (shape.value bs) ≡ bs
 
 judged_got : {A : Type 0} (f : Option Fault) (sort : Record) (v a : A) (at p next : Place) → judged f sort v at p ≡ Got a next → (f ≡ None) × (v ≡ a) × (p ≡ next)
 judged_got None sort v a at p next e = (refl, cc, cc)
@@ -37,20 +45,11 @@ cond_got false r y a next e = (refl, e)
 pub one_faultless : {A : Type 0} (shape : Shape A) (n : ℕ) (bytes : List ℕ) (last : Option A) (at next : Place) (a : A)
     → one shape n bytes last at ≡ Got a next → shape.fault n last a ≡ None
 one_faultless shape n bytes last at next a e =
-    let v = shape.value last (take shape.size (drop at.byte bytes)) in
+    let v = shape.value (take shape.size (drop at.byte bytes)) in
     let p = cond_got (ltb (length bytes) (at.byte + shape.size)) (record { fault = Form; «record» = shape.sort; at = at })
     (judged (shape.fault n last v) shape.sort v at (after at shape.size)) a next e in
     let j = judged_got (shape.fault n last v) shape.sort v a at (after at shape.size) next p.1 in
     ap (λ z. shape.fault n last z) (sym j.1) ∙ j.0
-
--- .. and ends where its bytes do
-pub one_ends : {A : Type 0} (shape : Shape A) (n : ℕ) (bytes : List ℕ) (last : Option A) (at next : Place) (a : A)
-    → one shape n bytes last at ≡ Got a next → after at shape.size ≡ next
-one_ends shape n bytes last at next a e =
-    let v = shape.value last (take shape.size (drop at.byte bytes)) in
-    let p = cond_got (ltb (length bytes) (at.byte + shape.size)) (record { fault = Form; «record» = shape.sort; at = at })
-    (judged (shape.fault n last v) shape.sort v at (after at shape.size)) a next e in
-    (judged_got (shape.fault n last v) shape.sort v a at (after at shape.size) next p.1).2
 
 -- One record.
 module _ {A : Type 0} (shape : Shape A) (n : ℕ) (last : Option A) (write : A → List ℕ) (Valid : A → Type 0) (w : Written shape n last write Valid) where
@@ -67,9 +66,9 @@ module _ {A : Type 0} (shape : Shape A) (n : ℕ) (last : Option A) (write : A �
       let size_is : length (write a) ≡ shape.size = w.wide a in
       let long : length bytes - at.byte ≡ length (write a) + length rest = sym (length-drop at.byte bytes) ∙ ap length e ∙ length-append (write a) rest in
       let enough : ltb (length bytes) (at.byte + shape.size) ≡ false = le-ltb (length bytes) (at.byte + shape.size) (omega (arith, w.some)) in
-      let is : shape.value last (part bytes at) ≡ a = ap (λ z. shape.value last (take shape.size z)) e ∙ ap (shape.value last) (take_at (write a) rest shape.size size_is) ∙ w.told a v in (
+      let is : shape.value (part bytes at) ≡ a = ap (λ z. shape.value (take shape.size z)) e ∙ ap shape.value (take_at (write a) rest shape.size size_is) ∙ w.told a v in (
         after at shape.size,
-        ap (λ b. cond b (refuse Form shape.sort at) (verdict (shape.value last (part bytes at)) at)) enough
+        ap (λ b. cond b (refuse Form shape.sort at) (verdict (shape.value (part bytes at)) at)) enough
             ∙ ap (λ x. verdict x at) is
             ∙ ap (λ f. judged f shape.sort a at (after at shape.size)) (w.fair a v),
         ap (λ k. at.byte + k) (sym size_is),
@@ -78,8 +77,8 @@ module _ {A : Type 0} (shape : Shape A) (n : ℕ) (last : Option A) (write : A �
   one_back : (bytes : List ℕ) → Bytes bytes → (at next : Place) (a : A) → one shape n bytes last at ≡ Got a next
       → Valid a × (drop at.byte bytes ≡ write a ++ drop next.byte bytes)
   one_back bytes all at next a e =
-      let p = cond_got (ltb (length bytes) (at.byte + shape.size)) (record { fault = Form; «record» = shape.sort; at = at }) (verdict (shape.value last (part bytes at)) at) a next e in
-      let j = judged_got (shape.fault n last (shape.value last (part bytes at))) shape.sort (shape.value last (part bytes at)) a at (after at shape.size) next p.1 in
+      let p = cond_got (ltb (length bytes) (at.byte + shape.size)) (record { fault = Form; «record» = shape.sort; at = at }) (verdict (shape.value (part bytes at)) at) a next e in
+      let j = judged_got (shape.fault n last (shape.value (part bytes at))) shape.sort (shape.value (part bytes at)) a at (after at shape.size) next p.1 in
       let enough : at.byte + shape.size ≤ length bytes = ltb-false (length bytes) (at.byte + shape.size) p.0 in
       let long : length (part bytes at) ≡ shape.size = length-take-le shape.size (drop at.byte bytes) (omega (arith, length-drop at.byte bytes)) in
       let small : (k : ℕ) → k < shape.size → get_or (part bytes at) k 0 < 256 =
@@ -96,14 +95,10 @@ module _ {A : Type 0} (shape : Shape A) (n : ℕ) (last : Option A) (write : A �
       let long : length bytes - at.byte ≡ length s = sym (length-drop at.byte bytes) ∙ ap length e in
       let all : shape.size ≡ length s + length t = sym (w.wide a) ∙ ap length f ∙ length-append s t in
       let few : ltb (length bytes) (at.byte + shape.size) ≡ true = lt-ltb (length bytes) (at.byte + shape.size) (omega arith) in
-      subst (λ b. Cut (cond b (refuse Form shape.sort at) (verdict (shape.value last (part bytes at)) at))) (sym few) refl
+      subst (λ b. Cut (cond b (refuse Form shape.sort at) (verdict (shape.value (part bytes at)) at))) (sym few) refl
 
   pub one_fits : Fits (λ bytes. one shape n bytes last) write Valid
   one_fits = record { trip = one_trip; back = one_back; cut = one_cut }
-
--- what was read ends at one place
-pub got_ends : {A : Type 0} {a b : A} {p q : Place} → Got a p ≡ Got b q → p ≡ q
-got_ends e = cc
 
 -- One thing after another.
 pub then_got : {A B : Type 0} (x : Read A) (f : A → Place → Read B) (b : B) (next : Place) → then x f ≡ Got b next
@@ -132,12 +127,3 @@ parted w j s t e =
             sym (drop_at w j (length w) refl) ∙ ap (drop (length w)) e ∙ drop-append-le (length w) s t l,
           )
     ]
-
--- the same with another word for what is valid
-pub refit : {A : Type 0} {r : List ℕ → Place → Read A} {write : A → List ℕ} (Valid Sound : A → Type 0)
-    → ((a : A) → Valid a → Sound a) → ((a : A) → Sound a → Valid a) → Fits r write Valid → Fits r write Sound
-refit Valid Sound there here fits = record {
-  trip = λ bytes rest at a v e. fits.trip bytes rest at a (here a v) e;
-  back = λ bytes all at next a e. let b = fits.back bytes all at next a e in (there a b.0, b.1);
-  cut = λ bytes s t at a v e k l. fits.cut bytes s t at a (here a v) e k l;
-}

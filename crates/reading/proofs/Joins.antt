@@ -1,8 +1,7 @@
 -- Lists that are written one after another, and taken back. Assumes nothing.
-use Rattle.std.proofs.Common.{◌≡◌, ℕ, ◌+◌, ◌<◌, ◌≤◌, List, [], ◌∷◌, ◌++◌, map, length, get_or, take, Err, Result, sym, refl, ap, ◌∙◌, subst}
+use Rattle.std.proofs.Common.{◌≡◌, ℕ, ◌+◌, ◌<◌, ◌≤◌, List, ◌++◌, length, get_or, take, sym, ap, ◌∙◌}
 use Rattle.std.proofs.lemmas.List.{append_assoc, flat_map_more, take_more, take_all, take_at}
 use Rattle.std.specs.List.{flat_map}
-use Rattle.reading.specs.Writing.{Began}
 
 -- one more written
 pub joined_turn : {X A : Type 0} (f : X → List A) (xs : List X) (i : ℕ) (d : X) (old now after : List A)
@@ -23,12 +22,3 @@ wrote old a b e h = h ∙ ap (λ z. z ++ b) e ∙ append_assoc old a b
 -- what was written is taken back
 pub undone : {A : Type 0} (old more now after : List A) (k : ℕ) → k ≡ length old → now ≡ old ++ more → after ≡ take k now → after ≡ old
 undone old more now after k long e h = h ∙ ap (λ z. take k z) e ∙ take_at old more k (sym long)
-
--- a part was written, and then nothing more
-pub begun : {U E : Type 0} (old more part : List ℕ) {now after : List ℕ} {r : Result U E} {e : E} → r ≡ Err e → now ≡ old ++ part → after ≡ now → Began old more r after
-begun {U} {E} old more part {now} {after} is h s = subst (λ (z : Result U E). Began old more z after) (sym is) (part, s ∙ h)
-
--- what things hold, written by what they hold
-pub joined_map : {X Y A : Type 0} (f : Y → List A) (g : X → Y) (xs : List X) → flat_map (λ x. f (g x)) xs ≡ flat_map f (map g xs)
-joined_map f g [] = refl
-joined_map f g (x ∷ xs) = ap (λ z. f (g x) ++ z) (joined_map f g xs)

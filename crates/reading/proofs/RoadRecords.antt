@@ -6,8 +6,7 @@ use Rattle.maps.specs.Roads.{Each, SoundRoad}
 use Rattle.maps.proofs.RoadLists.{road_sound, sound_road}
 use Rattle.reading.specs.Reading.{one, many}
 use Rattle.reading.specs.Roads.{road_of, road_shape, road_bytes}
-use Rattle.reading.specs.Laws.{Fits}
-use Rattle.reading.proofs.Fitting.{Written, one_fits}
+use Rattle.reading.proofs.Fitting.{Fits, Written, one_fits}
 use Rattle.reading.proofs.Series.{many_fits}
 use Rattle.reading.proofs.Decoded.{spread_all, word_bytes, bytes_word}
 

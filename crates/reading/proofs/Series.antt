@@ -4,9 +4,8 @@ use Rattle.std.proofs.lemmas.List.{append_assoc, length-append}
 use Rattle.std.specs.List.{flat_map}
 use Rattle.maps.specs.Roads.{Each}
 use Rattle.reading.specs.declared.kinds.Place.{Place}
-use Rattle.reading.specs.Reading.{Read, Got, then, both, many, as_one, fresh, Bytes, Cut, Reads}
-use Rattle.reading.specs.Laws.{Fits}
-use Rattle.reading.proofs.Fitting.{past, got_ends, then_got, then_cut, parted}
+use Rattle.reading.specs.Reading.{Read, Got, then, both, many, fresh, Bytes, Cut, Reads}
+use Rattle.reading.proofs.Fitting.{Fits, past, then_got, then_cut, parted}
 
 -- the bytes of two things
 on_by : (w v : List ℕ) (at p q : ℕ) → p ≡ at + length w → q ≡ p + length v → q ≡ at + length (w ++ v)
@@ -149,22 +148,3 @@ many_each {A} F P h (suc k) last at next xs e =
     let q = many_each F P h k (Some x.0) x.1 y.1 y.0 y.2 in
     let same : x.0 ∷ y.0 ≡ xs = let z = y.3 in cc in
     subst (λ (zs : List A). (length zs ≡ suc k) × Each P last zs) same (ap suc q.0, (h last at x.1 x.0 x.2, q.1))
-
--- A thing that is counted as one.
-pub as_one_fits : {A : Type 0} (r : List ℕ → Place → Read A) (write : A → List ℕ) (Valid : A → Type 0) → Fits r write Valid → Fits (λ bytes. as_one (r bytes)) write Valid
-as_one_fits {A} r write Valid fits = record {
-  trip = λ bytes rest at a v e.
-      let x = fits.trip bytes rest at a v e in
-      (record { index = at.index + 1; byte = x.0.byte }, ap (λ z. then z (λ b q. Got b (record { index = at.index + 1; byte = q.byte }))) x.1, x.2);
-  back = λ bytes all at next a e.
-      let x = then_got (r bytes at) (λ b q. Got b (record { index = at.index + 1; byte = q.byte })) a next e in
-      let same : x.0 ≡ a = let z = x.3 in cc in
-      let p = fits.back bytes all at x.1 x.0 x.2 in
-      let ends : x.1.byte ≡ next.byte = ap (λ (q : Place). q.byte) (got_ends x.3) in
-      (subst Valid same p.0, p.1 ∙ ap (λ z. write z ++ drop x.1.byte bytes) same ∙ ap (λ k. write a ++ drop k bytes) ends);
-  cut = λ bytes s t at a v e k l. then_cut (r bytes at) (λ b q. Got b (record { index = at.index + 1; byte = q.byte })) (fits.cut bytes s t at a v e k l);
-}
-
--- as many are read as there are to be
-pub many_length : {A : Type 0} (F : Option A → Place → Read A) (k : ℕ) (last : Option A) (at next : Place) (xs : List A) → many F k last at ≡ Got xs next → length xs ≡ k
-many_length F k last at next xs e = (many_each F (λ _ _. Unit {0}) (λ _ _ _ _ _. tt) k last at next xs e).0

@@ -18,19 +18,6 @@ pub bad : {A : Type 0} (x : Read A) (d : Refusal) (r : Result A Refusal) → r �
 bad (Got b p) d r e f = let z : ◌≡◌ {A = ℕ} 0 1 = cc in absurd (omega arith)
 bad (Bad b) d r e f = let z : d ≡ b = cc in ap Bad (sym z)
 
--- the same of an input as it was before: b' is what the reader has
-pub got_at : {A : Type 0} (F : List ℕ → Place → Read A) {b b' : List ℕ} (at : Place) {at' : Place} {a : A} {r : Result A Refusal}
-    → b' ≡ b → r ≡ Ok a → r ≡ answer (F b' at) → at' ≡ stands (F b' at) at → F b at ≡ Got a at'
-got_at F {b} {b'} at {at'} {a} {r} e was says stood =
-    ap (λ (z : List ℕ). F z at) (sym e) ∙ got (F b' at) at a r was says ∙ ap (λ (z : Place). Got a z) (sym stood)
-
-pub said_at : {A : Type 0} (F : List ℕ → Place → Read A) {b b' : List ℕ} (at : Place) {r : Result A Refusal} → b' ≡ b → r ≡ answer (F b' at) → r ≡ answer (F b at)
-said_at F at e says = says ∙ ap (λ (z : List ℕ). answer (F z at)) e
-
-pub told_at : {A B : Type 0} (view : B → A) (F : List ℕ → Place → Read A) {b b' : List ℕ} (at q : Place) (r : Result B Stop)
-    → b' ≡ b → Told view (F b' at) r q → Told view (F b at) r q
-told_at view F at q r e told = subst (λ (z : List ℕ). Told view (F z at) r q) e told
-
 -- some elements, and then what is read
 abbrev pub onto : {A : Type 0} → List A → Read (List A) → Read (List A)
 onto xs r = then r (λ ys q. Got (xs ++ ys) q)
@@ -58,10 +45,10 @@ many_bad step n i last at xs d l e =
     ∙ ap (λ r. onto xs (then r (λ b p. then (many step (n - (i + 1)) (Some b) p) (λ rest z. Got (b ∷ rest) z)))) e
 
 -- what a reader that allocates tells, from what is read
-pub tells_bad : {A B : Type 0} (view : B → A) (x : Read A) (d : Refusal) → x ≡ Bad d → Tells view x (Err (Input d))
+tells_bad : {A B : Type 0} (view : B → A) (x : Read A) (d : Refusal) → x ≡ Bad d → Tells view x (Err (Input d))
 tells_bad view x d e = subst (λ y. Tells view y (Err (Input d))) (sym e) refl
 
-pub err_not_ok : {A E X : Type 0} (r : Result A E) (e : E) → r ≡ Err e → is_ok r ≡ true → X
+err_not_ok : {A E X : Type 0} (r : Result A E) (e : E) → r ≡ Err e → is_ok r ≡ true → X
 err_not_ok (Ok a) e p q = let z : ◌≡◌ {A = ℕ} 0 1 = cc in absurd (omega arith)
 err_not_ok (Err d) e p q = let z : ◌≡◌ {A = ℕ} 0 1 = cc in absurd (omega arith)
 

@@ -1,5 +1,4 @@
 pub mod Reading
-pub mod Laws
 pub mod Telling
 pub mod Writing
 pub mod Roads

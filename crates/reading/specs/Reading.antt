@@ -6,10 +6,7 @@
 --   one       one record: it is cut, or at fault, or has its value
 --   many      some records of one sort, each read with the one before it in sight
 --   both      one thing and then another, of another sort
---   as_one     a thing of several records that is counted as one
 --   closed    the end of a document, a record of no bytes: what is wrong with the whole is told there
---   ending    a thing with which the input has to end
---   whole     a thing that is the whole input
 --   word      the number in two bytes, high byte first; bytes_of writes it
 use Rattle.std.specs.Prelude.{◌≡◌, ℕ, zero, suc, ◌+◌, ◌*◌, ◌/◌, ◌%◌, ◌<◌, cond, List, [], ◌∷◌, length, take, drop, Some, None, Option, ◌==◌, nat_lt, slice_index}
 use Rattle.maps.specs.declared.kinds.Fault.{Fault}
@@ -51,12 +48,11 @@ abbrev pub judged : {A : Type 0} → Option Fault → Record → A → Place →
 judged None sort a at next = Got a next
 judged (Some fault) sort a at next = refuse fault sort at
 
--- A sort of record: its name, how many bytes it has, what they mean after the one before it, and what is wrong with a record where n is the number
--- that it is held to, after the one before it. For most sorts n is the number of places.
+-- A sort of record: its name, how many bytes it has, what they mean, and what is wrong with a record in a map of n places, after the one before it.
 pub record Shape (A : Type 0) : Type 0 where
   pub sort : Record
   pub size : ℕ
-  pub value : Option A → List ℕ → A
+  pub value : List ℕ → A
   pub fault : ℕ → Option A → A → Option Fault
 
 -- One record. It is decoded whole and then judged, so that a cut record is refused for its form whatever else is wrong with it.
@@ -64,16 +60,12 @@ abbrev pub one : {A : Type 0} → Shape A → ℕ → List ℕ → Option A → 
 one shape n bytes last at =
     cond (nat_lt (length bytes) (at.byte + shape.size))
     (refuse Form shape.sort at)
-    (judged (shape.fault n last (shape.value last (take shape.size (drop at.byte bytes))))
-    shape.sort (shape.value last (take shape.size (drop at.byte bytes))) at (after at shape.size))
+    (judged (shape.fault n last (shape.value (take shape.size (drop at.byte bytes))))
+    shape.sort (shape.value (take shape.size (drop at.byte bytes))) at (after at shape.size))
 
 abbrev pub many : {A : Type 0} → (Option A → Place → Read A) → ℕ → Option A → Place → Read (List A)
 many step zero last at = Got [] at
 many step (suc k) last at = then (step last at) (λ a p. then (many step k (Some a) p) (λ rest q. Got (a ∷ rest) q))
-
--- A thing of several records that is counted as one.
-abbrev pub as_one : {A : Type 0} → (Place → Read A) → Place → Read A
-as_one read at = then (read at) (λ a q. Got a (record { index = at.index + 1; byte = q.byte }))
 
 abbrev pub closed : {A : Type 0} → Option Fault → A → Place → Read A
 closed fault a at = judged fault End a (fresh at) (fresh at)
@@ -81,14 +73,6 @@ closed fault a at = judged fault End a (fresh at) (fresh at)
 -- What is wrong with bytes that are left over.
 abbrev pub left_over : List ℕ → Place → Option Fault
 left_over bytes at = cond (at.byte == length bytes) None (Some Form)
-
--- A thing with which the input has to end: bytes left over are told at its end.
-abbrev pub ending : {A : Type 0} → (List ℕ → Place → Read A) → List ℕ → Place → Read A
-ending read bytes at = then (read bytes at) (λ a p. closed (left_over bytes p) a p)
-
--- A thing that is the whole input.
-abbrev pub whole : {A : Type 0} → (List ℕ → Place → Read A) → List ℕ → Read A
-whole read bytes = ending read bytes start
 
 abbrev pub word : List ℕ → ℕ → ℕ
 word bs i = slice_index bs i * 256 + slice_index bs (i + 1)

@@ -9,7 +9,7 @@ abbrev pub road_of : List ℕ → Road
 road_of bs = record { from = word bs 0; to = word bs 2; cost = word bs 4 }
 
 abbrev pub road_shape : Shape Road
-road_shape = record { sort = RoadRecord; size = 6; value = λ _. road_of; fault = road_fault }
+road_shape = record { sort = RoadRecord; size = 6; value = road_of; fault = road_fault }
 
 abbrev pub road_bytes : Road → List ℕ
 road_bytes r = bytes_of r.from ++ bytes_of r.to ++ bytes_of r.cost

@@ -15,20 +15,6 @@ pub enum Record {
     Header,
     /// A road of a map.
     Road,
-    /// A landmark of a plan.
-    Landmark,
-    /// How many lines a post of a plan has.
-    Post,
-    /// A line of a post.
-    Line,
-    /// A card of a plan.
-    Card,
-    /// For how many lines a post is to have room.
-    Room,
-    /// A change of a road.
-    Change,
-    /// A walk from one place to another.
-    Walk,
     /// The end of a document, a record of no bytes.
     End,
 }

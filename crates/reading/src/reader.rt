@@ -75,23 +75,6 @@ impl<'a> Reader<'a> {
         self.at.index = 0;
     }
 
-    /// How many records of the sort stand right before this place.
-    pub fn index(&self) -> usize
-        ensures { result ≡ self.now.at.index }
-    {
-        let Place { index, .. } = self.at;
-        index
-    }
-
-    /// Goes back to a sort of record of which `index` were counted.
-    pub fn resume(&mut self, index: usize)
-        requires { index ≤ self.old.at.byte }
-        ensures at { self.new.at ≡ (record { index = index; byte = self.old.at.byte }) }
-        ensures same { self.new.bytes.now ≡ self.old.bytes.now }
-    {
-        self.at.index = index;
-    }
-
     /// Passes a record of `size` bytes with its value, unless it has a fault.
     pub fn pass<T: Drop>(
         &mut self,

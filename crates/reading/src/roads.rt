@@ -1,7 +1,7 @@
 // Roads as records.
-ghost use Rattle.std.specs.Prelude.{◌≡◌, length};
+ghost use Rattle.std.specs.Prelude.{◌≡◌};
 ghost use Rattle.maps.specs.Roads.{road_fault};
-ghost use Rattle.reading.specs.Roads.{road_of, road_shape, road_bytes};
+ghost use Rattle.reading.specs.Roads.{road_shape, road_bytes};
 ghost use Rattle.reading.specs.Writing.{Wrote};
 
 use super::kinds::Record;
@@ -11,12 +11,7 @@ use super::writer::Put;
 use maps::kinds::{Fault, Road};
 use std::alloc::AllocError;
 
-/// The sort of record that a road is.
-pub struct RoadRecord;
-
-impl Recorded for RoadRecord {
-    type Value = Road;
-
+impl Recorded for Road {
     ghost shape = { road_shape };
 
     fn sort() -> Record {
@@ -27,10 +22,7 @@ impl Recorded for RoadRecord {
         6
     }
 
-    fn decode(part: &[u8], _last: Option<Road>) -> Road
-        requires { length part.now ≡ 6 }
-        ensures { result ≡ road_of part.now }
-    {
+    fn decode(part: &[u8]) -> Road {
         Road {
             from: word_at(part, 0),
             to: word_at(part, 2),
@@ -38,31 +30,22 @@ impl Recorded for RoadRecord {
         }
     }
 
-    fn judge(road: Road, n: u16, last: Option<Road>) -> Option<Fault>
-        ensures { result ≡ road_fault n last road }
+    fn judge(self, n: u16, last: Option<Road>) -> Option<Fault>
+        ensures { result ≡ road_fault n last self }
     {
-        road.fault(n, last)
+        self.fault(n, last)
     }
 }
 
-// The bytes of a road.
-fn encode(road: Road) -> [u8; 6]
-    ensures { result ≡ road_bytes road }
-{
-    let [from_high, from_low] = road.from.to_be_bytes();
-    let [to_high, to_low] = road.to.to_be_bytes();
-    let [cost_high, cost_low] = road.cost.to_be_bytes();
-    [from_high, from_low, to_high, to_low, cost_high, cost_low]
-}
-
-impl Put for RoadRecord {
-    type Item = Road;
-
+impl Put for Road {
     ghost writes = { road_bytes };
 
-    fn put(out: &mut Vec<u8>, road: &Road) -> Result<(), AllocError>
-        ensures { Wrote out.old.items (road_bytes road.now) result out.new.items }
+    fn put(self, out: &mut Vec<u8>) -> Result<(), AllocError>
+        ensures { Wrote out.old.items (road_bytes self) result out.new.items }
     {
-        out.extend_from_slice(&encode(*road))
+        let [from_high, from_low] = self.from.to_be_bytes();
+        let [to_high, to_low] = self.to.to_be_bytes();
+        let [cost_high, cost_low] = self.cost.to_be_bytes();
+        out.extend_from_slice(&[from_high, from_low, to_high, to_low, cost_high, cost_low])
     }
 }

@@ -13,24 +13,22 @@ pub fn put_word(out: &mut Vec<u8>, x: u16) -> Result<(), AllocError>
     out.extend_from_slice(&x.to_be_bytes())
 }
 
-/// How things of one sort are written.
-pub trait Put {
-    type Item;
+/// A record that can be written.
+pub trait Put: Copy + Drop {
+    ghost writes: { Self → List ℕ };
 
-    ghost writes: { Self.Item → List ℕ };
-
-    /// Writes one of them; for want of memory, nothing of it.
-    fn put(out: &mut Vec<u8>, item: &Self::Item) -> Result<(), AllocError>
-        ensures { Wrote out.old.items (writes item.now) result out.new.items };
+    /// Writes the record; for want of memory, nothing of it.
+    fn put(self, out: &mut Vec<u8>) -> Result<(), AllocError>
+        ensures { Wrote out.old.items (writes self) result out.new.items };
 }
 
-/// Writes some things of one sort; for want of memory, none of them.
-pub fn put_all<S: Put>(out: &mut Vec<u8>, items: &[S::Item]) -> Result<(), AllocError>
-    ensures { Wrote out.old.items (flat_map S.Put.writes items.now) result out.new.items }
+/// Writes some records of one sort; for want of memory, none of them.
+pub fn put_all<T: Put>(out: &mut Vec<u8>, items: &[T]) -> Result<(), AllocError>
+    ensures { Wrote out.old.items (flat_map T.Put.writes items.now) result out.new.items }
 {
     let old = out.len();
     for item in items {
-        if let Err(error) = S::put(out, item) {
+        if let Err(error) = (*item).put(out) {
             out.truncate(old);
             return Err(error);
         }

@@ -3,10 +3,8 @@ use distances::rows::{all_rows, row};
 use documents::map::read_map;
 use maps::buf::RoadMapBuf;
 use maps::map::RoadMap;
-use programs::asking::answered;
 use programs::input::{input, words};
-use programs::kinds::Ended;
-use programs::messages::{complain, refuse};
+use programs::messages::{Ended, complain, refuse};
 use std::fmt::Write;
 use std::string::String;
 
@@ -66,11 +64,8 @@ fn repeat_rows(rt: &HostRuntime, map: &RoadMap<'_>, times: u32) -> Result<(), En
     let Ok(mut next) = vec![in rt.alloc(); 0u16; n * n] else {
         return Err(complain(rt, "rows", "no memory"));
     };
-    let Ok(mut order) = vec![in rt.alloc(); 0u16; n * n] else {
-        return Err(complain(rt, "rows", "no memory"));
-    };
     for _ in 0..times {
-        let _ = all_rows(map, &mut dist, &mut next, &mut order);
+        let _ = all_rows(map, &mut dist, &mut next);
     }
     let sum = sum_of(&dist, &next);
     if println!(rt; "{times} times {n} rows, sum {sum}").is_ok() {
@@ -84,7 +79,7 @@ fn map_of(rt: &HostRuntime, given: &[String]) -> Result<RoadMapBuf, Ended> {
     let bytes = input(rt, "rows", given)?;
     match read_map(rt.alloc(), &bytes) {
         Ok(map) => Ok(map),
-        Err(stop) => Err(refuse(rt, "rows", &bytes, stop)),
+        Err(stop) => Err(refuse(rt, "rows", stop)),
     }
 }
 
@@ -100,25 +95,8 @@ fn repeat(rt: &HostRuntime, given: &[String]) -> Result<(), Ended> {
     repeat_rows(rt, &map.map(), times)
 }
 
-/// What `--help` prints.
-const HELP: &str = "rows [FILE…]
-rows --repeat TIMES [FILE…]
-
-Prints all distances and next places of a map, a line for each place. The bytes of the FILEs, one
-after the other, are the map; no FILE, and -, is standard input.
-
-  --repeat TIMES   works them out so many times, and prints their sum; this option comes first
-  --help           prints this
-  --version        prints the version
-
-For example: rows examples/newyork13.map
-";
-
 fn main(rt: HostRuntime) -> Result<(), Ended> {
     let given = words(&rt, "rows")?;
-    if answered(&rt, "rows", HELP, &given)? {
-        return Ok(());
-    }
     if let [first, rest @ ..] = given.as_slice() {
         if first.as_str() == "--repeat" {
             return repeat(&rt, rest);

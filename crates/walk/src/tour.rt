@@ -9,8 +9,7 @@ use maps::kinds::Fault;
 use posts::kinds::{Line, Post};
 use posts::posting::posts_of;
 use programs::input::input;
-use programs::kinds::Ended;
-use programs::messages::{complain, refuse, words_of};
+use programs::messages::{Ended, complain, refuse, words_of};
 use std::fmt::Write;
 use std::string::String;
 use walking::kinds::End;
@@ -66,8 +65,7 @@ fn land_of(rt: &HostRuntime, list: &str, map: RoadMapBuf) -> Result<Land, Ended>
 
 fn show_post(rt: &HostRuntime, u: usize, post: &Post) -> Result<(), Ended> {
     let count = post.len();
-    let noun = if count == 1 { "line" } else { "lines" };
-    let _ = println!(rt; "post {u}: {count} {noun}");
+    let _ = println!(rt; "post {u}: {count} lines");
     for line in post.lines() {
         let Line { place, next, near } = *line;
         let sort = if near { "near" } else { "landmark" };
@@ -158,7 +156,7 @@ fn tour_of(rt: &HostRuntime, list: &str, files: &[String], posts_only: bool) -> 
     let bytes = input(rt, "walk", files)?;
     let map = match read_map(rt.alloc(), &bytes) {
         Ok(map) => map,
-        Err(stop) => return Err(refuse(rt, "walk", &bytes, stop)),
+        Err(stop) => return Err(refuse(rt, "walk", stop)),
     };
     let land = land_of(rt, list, map)?;
     let posts = match posts_of(rt.alloc(), &land) {

@@ -10,20 +10,14 @@ slice-bounds-work-out-end c = let h = row_fits c.loop-d.d c.args.map.now.n c.loo
 pub slice-bounds-work-out-end-in-loop-d : goal.slice-bounds-work-out-end-in-loop-d
 slice-bounds-work-out-end-in-loop-d c = let h = row_fits c.loop-d.d c.args.map.now.n c.loop-d-test.true in search rules
 
-pub slice-bounds-work-out-end-in-loop-d-2 : goal.slice-bounds-work-out-end-in-loop-d-2
-slice-bounds-work-out-end-in-loop-d-2 c = let h = row_fits c.loop-d.d c.args.map.now.n c.loop-d-test.true in search rules
-
 pub loop-d-preserved : goal.loop-d-preserved
 loop-d-preserved c =
     let n = c.args.map.now.n in
     let d = c.loop-d.d in
     let h = row_fits d n c.loop-d-test.true in
     let ld : length c.work-out.new.dist ≡ n = c.work-out.auto.dist ∙ length-between c.loop-d.dist (d * n) (d * n + n) (omega (arith, h, c.loop-d.invariant.0)) ∙ omega arith in
-    let ln : length c.work-out.new.next ≡ n = c.work-out.auto.next ∙ length-between c.loop-d.next (d * n) (d * n + n) (omega (arith, h, c.loop-d.invariant.1)) ∙ omega arith in
-    let lo : length c.work-out.new.order ≡ n = c.work-out.auto.order ∙ length-between c.loop-d.order (d * n) (d * n + n) (omega (arith, h, c.loop-d.invariant.2)) ∙ omega arith in (
+    let ln : length c.work-out.new.next ≡ n = c.work-out.auto.next ∙ length-between c.loop-d.next (d * n) (d * n + n) (omega (arith, h, c.loop-d.invariant.1)) ∙ omega arith in (
       mid_long d n c.loop-d.dist c.work-out.new.dist c.loop-d-test.true c.loop-d.invariant.0 ld,
       mid_long d n c.loop-d.next c.work-out.new.next c.loop-d-test.true c.loop-d.invariant.1 ln,
-      mid_long d n c.loop-d.order c.work-out.new.order c.loop-d-test.true c.loop-d.invariant.2 lo,
-      before_more (chart c.args.map.now) n d ((d * n + n) - d * n) c.loop-d.dist c.loop-d.next c.loop-d.order c.work-out.new.dist c.work-out.new.next c.work-out.new.order
-          refl c.loop-d-test.true c.loop-d.invariant.0 c.loop-d.invariant.1 c.loop-d.invariant.2 ld ln lo c.loop-d.invariant.3 c.work-out.ensures.far c.work-out.ensures.hop c.work-out.ensures.order,
+      before_more (chart c.args.map.now) n d ((d * n + n) - d * n) ((d * n + n) - d * n) c.loop-d.dist c.loop-d.next c.work-out.new.dist c.work-out.new.next refl c.loop-d-test.true c.loop-d.invariant.0 c.loop-d.invariant.1 ld ln c.loop-d.invariant.2 c.work-out.ensures.far c.work-out.ensures.hop,
     )

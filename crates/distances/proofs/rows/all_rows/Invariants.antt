@@ -4,5 +4,4 @@ use Rattle.distances.proofs.RowsOf.{RowsBefore}
 use Rattle.distances.proofs.rows.all_rows.Given as goal
 
 abbrev pub invariant-loop-d : goal.invariant-loop-d
-invariant-loop-d l = (length l.dist ≡ l.n * l.n) × (length l.next ≡ l.n * l.n) × (length l.order ≡ l.n * l.n)
-    × RowsBefore (chart l.map) l.n l.d l.dist l.next l.order
+invariant-loop-d l = (length l.dist ≡ l.n * l.n) × (length l.next ≡ l.n * l.n) × RowsBefore (chart l.map) l.n l.d l.dist l.next

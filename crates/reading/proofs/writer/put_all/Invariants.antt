@@ -4,4 +4,4 @@ use Rattle.std.specs.List.{flat_map}
 use Rattle.reading.proofs.writer.put_all.Given as goal
 
 abbrev pub invariant-loop-item : goal.invariant-loop-item
-invariant-loop-item g l = vec_items l.out ≡ vec_items l.initial.out ++ flat_map g.S.Put.writes (take l.item-index l.items)
+invariant-loop-item g l = vec_items l.out ≡ vec_items l.initial.out ++ flat_map g.T.Put.writes (take l.item-index l.items)
