@@ -1,7 +1,6 @@
 -- Halving the arcs of a place finds the cost of a road, or that there is none. Assumes nothing.
-use Rattle.std.proofs.Common.{◌≡◌, ℕ, ◌+◌, ◌<◌, ◌≤◌, ◌⊎◌, List, length, get_or, sym, refl, ap, ◌∙◌, inl, inr, arith}
+use Rattle.std.proofs.Common.{◌≡◌, ℕ, ◌+◌, ◌<◌, ◌≤◌, List, length, get_or, sym, ap, ◌∙◌, inl, inr, arith}
 use Rattle.std.proofs.lemmas.Bool.{cases_lt, cases_eq}
-use Rattle.ways.specs.Map.{Map}
 use Rattle.maps.specs.Arcs.{map_in, Arcs}
 use Rattle.maps.proofs.Costs.{starts_most, arcs_rise, arc_cost, road_arc}
 

@@ -1,11 +1,11 @@
 -- The first fault of a list of roads, road by road; and that a list without one is sound. Assumes nothing.
-use Rattle.std.proofs.Common.{◌≡◌, ℕ, zero, suc, ◌+◌, ◌<◌, ◌≤◌, Bool, true, false, cond, not, ◌||◌, eqb, ltb, leb, List, [], ◌∷◌, length, get_or, drop, Some, None, Option, sym, refl, ap, ◌∙◌, arith}
+use Rattle.std.proofs.Common.{◌≡◌, ℕ, ◌+◌, ◌<◌, ◌≤◌, Bool, true, false, cond, eqb, List, [], ◌∷◌, length, get_or, drop, Some, None, Option, refl, ap, ◌∙◌, arith}
 use Rattle.std.proofs.lemmas.List.{drop_more, drop_all}
 use Rattle.std.proofs.lemmas.Bool.{or_parts, or_from, not-false, not_from_true, lt-leb, leb-false, le-ltb, ltb-false, ne_eqb, eqb-false}
 use Rattle.maps.specs.declared.kinds.Fault.{Fault}
 use Rattle.maps.specs.declared.kinds.Fault.TheVariants.{Range, Order, Cost}
 use Rattle.maps.specs.declared.kinds.Road.{Road}
-use Rattle.maps.specs.Roads.{rises, road_fault, or_else, roads_fault, size_fault, map_fault, no_fault, faultless, Each, SoundRoad, SoundRoads}
+use Rattle.maps.specs.Roads.{road_fault, or_else, roads_fault, size_fault, map_fault, no_fault, faultless, Each, SoundRoad, SoundRoads}
 
 -- ---- one road of the list
 pub step_bad : (n : ℕ) (last : Option Road) (rs : List Road) (i : ℕ) (d : Road) (f : Fault) → i < length rs → road_fault n last (get_or rs i d) ≡ Some f → roads_fault n last (drop i rs) ≡ Some f

@@ -1,11 +1,10 @@
 -- The test on the arrays of a map says just the facts, and what the facts say of costs. Assumes nothing.
-use Rattle.std.proofs.Common.{◌≡◌, ℕ, zero, suc, ◌+◌, ◌-◌, ◌<◌, ◌≤◌, Bool, true, false, cond, not, ◌&&◌, ◌||◌, eqb, ltb, leb, ◌⊎◌, List, length, get_or, sym, refl, ap, ◌∙◌, inl, inr, arith}
-use Rattle.std.proofs.lemmas.Bool.{cases_Bool, cases_eq, cases_lt, or_cases, or_left, or_right, not_from_true, not_from_false, and_parts, and_from, and_left, and_right, eq-eqb, ne_eqb, eqb-true, eqb-false, lt-ltb, le-ltb, ltb-true, ltb-false, le-leb, lt-leb, leb-true, leb-false, both_ways}
-use borrow.Author.Tests.{not-true, not-false}
-use Rattle.ways.specs.Map.{Map}
+use Rattle.std.proofs.Common.{◌≡◌, ℕ, zero, suc, ◌+◌, ◌-◌, ◌<◌, ◌≤◌, true, not, ◌&&◌, ◌||◌, eqb, ltb, leb, List, length, get_or, ap, inl, inr, arith}
+use Rattle.std.proofs.lemmas.Bool.{cases_Bool, cases_lt, or_cases, or_left, or_right, not_from_false, and_parts, and_from, eq-eqb, ne_eqb, eqb-true, eqb-false, lt-ltb, ltb-true, le-leb, leb-true, both_ways}
+use borrow.Author.Tests.{not-true}
 use Rattle.ways.specs.Ways.{all_below}
 use Rattle.ways.proofs.Hanging.{all_at, all_from}
-use Rattle.maps.specs.Arcs.{lookup, map_in, arc_fits, sound_sizes, sound_arcs, Arcs, Meaning}
+use Rattle.maps.specs.Arcs.{map_in, arc_fits, sound_sizes, sound_arcs, Arcs}
 
 -- ---- what the test on one arc says
 fits_facts : (starts places : List ℕ) (a k : ℕ) → arc_fits starts places a k ≡ true → get_or starts a 0 ≤ k → k < get_or starts (a + 1) 0

@@ -8,7 +8,7 @@
 --   lookup     the cost of the first arc among m arcs from k on that leads to e, 0 where none does
 --   map_in      the abstract map of such arrays
 --   sound_arcs  the arrays are those of a map
-use Rattle.std.specs.Prelude.{◌≡◌, ℕ, zero, suc, ◌+◌, ◌-◌, ◌<◌, ◌≤◌, Bool, true, cond, not, ◌&&◌, ◌||◌, leb, List, [], length, take, drop, ◌==◌, ◌≢◌, nat_eq, nat_le, nat_lt, slice_index, slice_index_or}
+use Rattle.std.specs.Prelude.{◌≡◌, ℕ, zero, suc, ◌+◌, ◌-◌, ◌<◌, ◌≤◌, Bool, cond, not, ◌&&◌, ◌||◌, leb, List, [], length, take, drop, ◌==◌, ◌≢◌, nat_eq, nat_le, nat_lt, slice_index, slice_index_or}
 use Rattle.ways.specs.Map.{Map}
 use Rattle.ways.specs.Ways.{all_below}
 

@@ -1,5 +1,5 @@
 -- What laying out a map leads to: a map of these places and roads, or why there is none. Assumes nothing.
-use Rattle.std.specs.Prelude.{◌≡◌, ℕ, ◌⊎◌, List, Some, None, Ok, Err, vec_items, Option, Result}
+use Rattle.std.specs.Prelude.{◌≡◌, ℕ, ◌⊎◌, List, Some, None, Ok, Err, vec_items, Result}
 use Rattle.maps.specs.declared.kinds.Fault.{Fault}
 use Rattle.maps.specs.declared.kinds.Fault.TheVariants.{Memory}
 use Rattle.maps.specs.declared.kinds.Road.{Road}

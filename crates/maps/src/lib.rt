@@ -1,4 +1,6 @@
 // Maps: faults and their numbers, roads, and the map in memory.
+#![tactic(auto)]
+
 pub mod arcs;
 pub mod buf;
 pub mod faults;

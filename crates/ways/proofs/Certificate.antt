@@ -1,7 +1,7 @@
 -- A table of distances that bears itself out has the least costs of ways, and is `far`. Assumes nothing.
-use Rattle.std.proofs.Common.{◌≡◌, ℕ, zero, suc, ◌+◌, ◌<◌, ◌≤◌, Bool, true, false, cond, eqb, ltb, ◌⊎◌, sym, refl, ap, ◌∙◌, subst, inl, inr, arith}
-use Rattle.std.proofs.lemmas.Bool.{cases_Bool, cases_eq, eqb-true, eqb-false, eq-eqb, ne_eqb, lt-ltb}
-use Rattle.ways.specs.Map.{Map, Far, Never, At, plus, lower, lowest, home, within, far}
+use Rattle.std.proofs.Common.{◌≡◌, ℕ, zero, suc, ◌+◌, ◌<◌, ◌≤◌, Bool, true, false, cond, eqb, ltb, sym, refl, ap, ◌∙◌, subst, inl, inr, arith}
+use Rattle.std.proofs.lemmas.Bool.{cases_Bool, cases_eq, eqb-true, eq-eqb}
+use Rattle.ways.specs.Map.{Map, Far, Never, At, lowest, home, within, far}
 use Rattle.ways.specs.Ways.{Route, arrived, road, AtMost, Distances}
 use Rattle.ways.proofs.Fars.{at_same, never_at, lower_some, lower_left, lower_right, plus_some, plus_at, lowest_some, lowest_most}
 

@@ -1,7 +1,7 @@
 -- `far` bears itself out, on every map: settle one place after the other, on paper. Assumes nothing.
-use Rattle.std.proofs.Common.{◌≡◌, ℕ, zero, suc, ◌+◌, ◌*◌, ◌<◌, ◌≤◌, Bool, true, false, cond, ◌&&◌, eqb, ltb, ◌⊎◌, sym, refl, ap, ◌∙◌, inl, inr, arith}
+use Rattle.std.proofs.Common.{◌≡◌, ℕ, zero, suc, ◌+◌, ◌<◌, ◌≤◌, Bool, true, false, cond, ◌&&◌, eqb, ltb, ◌⊎◌, sym, refl, ap, ◌∙◌, inl, inr, arith}
 use Rattle.std.proofs.lemmas.Bool.{cases_Bool, cases_eq, cases_lt, eq-eqb, ne_eqb, both_ways}
-use Rattle.ways.specs.Map.{Map, Far, Never, At, far}
+use Rattle.ways.specs.Map.{Map, Far, far}
 use Rattle.ways.specs.Ways.{Distances}
 use Rattle.ways.proofs.Certificate.{far_is}
 use Rattle.ways.proofs.Settling.{read_at, Going, going_start, going_more, going_end}

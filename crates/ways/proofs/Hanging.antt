@@ -1,10 +1,10 @@
 -- A test on place 0 tells whether a map hangs together. Assumes nothing.
-use Rattle.std.proofs.Common.{◌≡◌, ℕ, zero, suc, ◌+◌, ◌<◌, ◌≤◌, Bool, true, false, ◌&&◌, ◌⊎◌, sym, refl, ap, ◌∙◌, inl, inr, arith}
+use Rattle.std.proofs.Common.{◌≡◌, ℕ, zero, suc, ◌<◌, Bool, true, false, refl, ap, ◌∙◌, inl, inr, arith}
 use Rattle.std.proofs.lemmas.Bool.{cases_eq, and_parts, and_from, both_ways}
-use Rattle.ways.specs.Map.{Map, Far, Never, At, far, some}
-use Rattle.ways.specs.Ways.{all_below, hangs_together, Joined, BothWays}
+use Rattle.ways.specs.Map.{Far, Never, At, far, some}
+use Rattle.ways.specs.Ways.{all_below}
 use Rattle.ways.specs.Laws.{HangingTogether}
-use Rattle.ways.proofs.Metric.{joined_by_one, there_and_back}
+use Rattle.ways.proofs.Metric.{joined_by_one}
 
 -- ---- `all_below`
 pub all_at : (k : ℕ) (f : ℕ → Bool) → all_below k f ≡ true → (i : ℕ) → i < k → f i ≡ true

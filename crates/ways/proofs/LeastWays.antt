@@ -1,8 +1,8 @@
 -- The distance is the least cost of a way, and n - 1 roads suffice. Assumes nothing.
-use Rattle.std.proofs.Common.{◌≡◌, ℕ, zero, suc, ◌+◌, ◌*◌, ◌<◌, ◌≤◌, sym, refl, ap, ◌∙◌, arith}
-use Rattle.ways.specs.Map.{Map, Far, At, far}
+use Rattle.std.proofs.Common.{◌≡◌, ℕ, ◌*◌, ◌<◌, ◌≤◌, arith}
+use Rattle.ways.specs.Map.{Map, At, far}
 use Rattle.ways.specs.Ways.{Route, arrived, road}
-use Rattle.ways.specs.Laws.{LeastWay, LeastWays, RoadsSuffice, DistancesFixed}
+use Rattle.ways.specs.Laws.{LeastWays, RoadsSuffice, DistancesFixed}
 use Rattle.ways.proofs.Certificate.{rank, rank_short, route_most, route_some, within_is, far_is}
 use Rattle.ways.proofs.Certified.{certified}
 

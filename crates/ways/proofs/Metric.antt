@@ -1,8 +1,8 @@
 -- Ways cost the same there and back, and never more over a third place. Assumes nothing.
-use Rattle.std.proofs.Common.{◌≡◌, ℕ, zero, suc, ◌+◌, ◌<◌, ◌≤◌, ◌⊎◌, sym, refl, ap, ◌∙◌, inl, inr, arith}
+use Rattle.std.proofs.Common.{◌≡◌, ℕ, zero, suc, ◌+◌, ◌<◌, sym, refl, ap, ◌∙◌, inl, inr, arith}
 use Rattle.std.proofs.lemmas.Bool.{cases_eq}
 use Rattle.ways.specs.Map.{Map, Far, Never, At, far}
-use Rattle.ways.specs.Ways.{AtMost, BothWays, Joined}
+use Rattle.ways.specs.Ways.{AtMost, BothWays}
 use Rattle.ways.specs.Laws.{Symmetric, Triangle, JoinedByOne}
 use Rattle.ways.proofs.Fars.{at_same, never_at}
 use Rattle.ways.proofs.Certified.{certified}

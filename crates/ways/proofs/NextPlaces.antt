@@ -1,5 +1,5 @@
 -- The next place on a cheapest way: where there is one, that it is closer, and that it is the lowest. Assumes nothing.
-use Rattle.std.proofs.Common.{◌≡◌, ℕ, zero, suc, ◌+◌, ◌<◌, ◌≤◌, Bool, true, false, cond, ◌&&◌, eqb, ◌⊎◌, sym, refl, ap, ◌∙◌, subst, inl, inr, arith}
+use Rattle.std.proofs.Common.{◌≡◌, ℕ, zero, suc, ◌+◌, ◌<◌, ◌≤◌, Bool, true, false, cond, ◌&&◌, sym, refl, ap, ◌∙◌, subst, inl, inr, arith}
 use Rattle.std.proofs.lemmas.Bool.{cases_Bool, cases_eq, eq-eqb, ne_eqb, eqb-true, both_ways}
 use Rattle.ways.specs.Map.{Map, Far, Never, At, plus, far, some, same_far, on_way, Hop, Nowhere, To, first_of, hop}
 use Rattle.ways.specs.Laws.{Closer, NextPlace, NextPlaces}

@@ -1,6 +1,6 @@
 -- The laws of distances and next places, each as a type; a proof of the type is the theorem. Assumes nothing.
 use Rattle.std.specs.Prelude.{◌≡◌, ℕ, ◌+◌, ◌<◌, ◌≤◌, true, ◌≢◌}
-use Rattle.ways.specs.Map.{Map, Far, Never, At, within, far, Hop, Nowhere, To, hop}
+use Rattle.ways.specs.Map.{Map, Far, Never, At, within, far, Nowhere, To, hop}
 use Rattle.ways.specs.Ways.{Route, AtMost, BothWays, Joined, Distances, hangs_together}
 
 -- The distance is the cost of a way of fewer than n roads, and no way costs less; where there is no distance there is no way.

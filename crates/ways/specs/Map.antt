@@ -7,7 +7,7 @@
 --   far       the distance from a to d: the least cost of a way of at most n roads, which is the least of all
 --   Hop       the next place of a way: To e, or Nowhere
 --   hop       the next place from a towards d: the lowest neighbour on a way of least cost
-use Rattle.std.specs.Prelude.{◌≡◌, ℕ, zero, suc, ◌+◌, Bool, true, false, cond, ◌&&◌, ◌==◌, nat_lt}
+use Rattle.std.specs.Prelude.{ℕ, zero, suc, ◌+◌, Bool, true, false, cond, ◌&&◌, ◌==◌, nat_lt}
 
 pub record Map : Type 0 where
   pub n : ℕ

@@ -1,4 +1,6 @@
 // The laws of distances and next places, on every map: theorems, each on the contract of a function.
+#![tactic(auto)]
+
 ghost use Rattle.std.specs.Prelude.{◌≡◌};
 ghost use Rattle.ways.specs.Laws.{LeastWays, RoadsSuffice, DistancesFixed, Symmetric, Triangle, NextPlaces, JoinedByOne, HangingTogether};
 
