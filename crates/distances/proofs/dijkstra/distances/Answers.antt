@@ -55,4 +55,4 @@ loop-u-preserved c =
 
 pub returns : goal.returns
 returns c =
-    turn_end c.args.map.now c.args.d c.requires.here c.loop-u.dist c.loop-u.queue.keys c.loop-u.invariant.1 c.loop-u.queue.n c.loop-u.invariant.0 c.pop.new.self.keys c.in-default.ensures.popped
+    turn_end c.args.map.now c.args.d c.requires.here c.loop-u.dist c.loop-u.queue.keys c.loop-u.invariant.1 c.loop-u.queue.n c.loop-u.invariant.0 c.pop.new.self.keys c.in_default.ensures.popped

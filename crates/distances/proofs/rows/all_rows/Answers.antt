@@ -4,20 +4,20 @@ use Rattle.maps.specs.Charts.{chart}
 use Rattle.distances.proofs.RowsOf.{row_fits, mid_long, before_more}
 use Rattle.distances.proofs.rows.all_rows.Goals as goal
 
-pub slice-bounds-work-out-end : goal.slice-bounds-work-out-end
-slice-bounds-work-out-end c = let h = row_fits c.loop-d.d c.args.map.now.n c.loop-d-test.true in search rules
+pub slice_bounds-work_out-end : goal.slice_bounds-work_out-end
+slice_bounds-work_out-end c = let h = row_fits c.loop-d.d c.args.map.now.n c.loop-d-test.true in search rules
 
-pub slice-bounds-work-out-end-in-loop-d : goal.slice-bounds-work-out-end-in-loop-d
-slice-bounds-work-out-end-in-loop-d c = let h = row_fits c.loop-d.d c.args.map.now.n c.loop-d-test.true in search rules
+pub slice_bounds-work_out-end-in-loop-d : goal.slice_bounds-work_out-end-in-loop-d
+slice_bounds-work_out-end-in-loop-d c = let h = row_fits c.loop-d.d c.args.map.now.n c.loop-d-test.true in search rules
 
 pub loop-d-preserved : goal.loop-d-preserved
 loop-d-preserved c =
     let n = c.args.map.now.n in
     let d = c.loop-d.d in
     let h = row_fits d n c.loop-d-test.true in
-    let ld : length c.work-out.new.dist ≡ n = c.work-out.auto.dist ∙ length-between c.loop-d.dist (d * n) (d * n + n) (omega (arith, h, c.loop-d.invariant.0)) ∙ omega arith in
-    let ln : length c.work-out.new.next ≡ n = c.work-out.auto.next ∙ length-between c.loop-d.next (d * n) (d * n + n) (omega (arith, h, c.loop-d.invariant.1)) ∙ omega arith in (
-      mid_long d n c.loop-d.dist c.work-out.new.dist c.loop-d-test.true c.loop-d.invariant.0 ld,
-      mid_long d n c.loop-d.next c.work-out.new.next c.loop-d-test.true c.loop-d.invariant.1 ln,
-      before_more (chart c.args.map.now) n d ((d * n + n) - d * n) ((d * n + n) - d * n) c.loop-d.dist c.loop-d.next c.work-out.new.dist c.work-out.new.next refl c.loop-d-test.true c.loop-d.invariant.0 c.loop-d.invariant.1 ld ln c.loop-d.invariant.2 c.work-out.ensures.far c.work-out.ensures.hop,
+    let ld : length c.work_out.new.dist ≡ n = c.work_out.auto.dist ∙ length-between c.loop-d.dist (d * n) (d * n + n) (omega (arith, h, c.loop-d.invariant.0)) ∙ omega arith in
+    let ln : length c.work_out.new.next ≡ n = c.work_out.auto.next ∙ length-between c.loop-d.next (d * n) (d * n + n) (omega (arith, h, c.loop-d.invariant.1)) ∙ omega arith in (
+      mid_long d n c.loop-d.dist c.work_out.new.dist c.loop-d-test.true c.loop-d.invariant.0 ld,
+      mid_long d n c.loop-d.next c.work_out.new.next c.loop-d-test.true c.loop-d.invariant.1 ln,
+      before_more (chart c.args.map.now) n d ((d * n + n) - d * n) ((d * n + n) - d * n) c.loop-d.dist c.loop-d.next c.work_out.new.dist c.work_out.new.next refl c.loop-d-test.true c.loop-d.invariant.0 c.loop-d.invariant.1 ld ln c.loop-d.invariant.2 c.work_out.ensures.far c.work_out.ensures.hop,
     )

@@ -9,24 +9,24 @@ use Rattle.documents.proofs.map.map_at.Goals as goal
 pub returns-in-err-close : goal.returns-in-err-close
 returns-in-err-close c =
     let p = err_from_is_err_and c.from-residual-in-err-close.result c.from-residual-in-err-close.ensures.1 in
-    let m = c.in-ok-map.map in
+    let m = c.in_ok-map.map in
     let at = c.roads-at.new.from.at in
     record {
       told = end_bad charted charted (read_roads c.args.from.now.bytes.now c.args.from.now.at) (λ m p. apart m) at c.close.new.self.at
           c.roads-at.result m m c.fault-of-whole-apart.result c.close.result
-          c.roads-at.ensures.told c.in-ok-map.was refl c.fault-of-whole-apart.ensures c.close.ensures.value
+          c.roads-at.ensures.told c.in_ok-map.was refl c.fault-of-whole-apart.ensures c.close.ensures.value
           c.in-err-close.was p.1 p.2;
       same = search rules;
     }
 
 pub returns : goal.returns
 returns c =
-    let m = c.in-ok-map.map in
+    let m = c.in_ok-map.map in
     let at = c.roads-at.new.from.at in
     record {
       told = end_ok charted charted (read_roads c.args.from.now.bytes.now c.args.from.now.at) (λ m p. apart m) at c.close.new.self.at
           c.roads-at.result m m c.fault-of-whole-apart.result c.close.result
-          c.roads-at.ensures.told c.in-ok-map.was refl c.fault-of-whole-apart.ensures c.close.ensures.value
-          c.in-ok-close.field-0 c.in-ok-close.was c.close.ensures.at;
+          c.roads-at.ensures.told c.in_ok-map.was refl c.fault-of-whole-apart.ensures c.close.ensures.value
+          c.in_ok-close.field-0 c.in_ok-close.was c.close.ensures.at;
       same = search rules;
     }

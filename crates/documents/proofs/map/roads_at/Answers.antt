@@ -11,29 +11,29 @@ use Rattle.documents.proofs.map.roads_at.Goals as goal
 
 pub built-requires : goal.built-requires
 built-requires c =
-    let h = c.in-ok-head.head in
-    let roads = vec_items c.in-ok-roads.roads in
+    let h = c.in_ok-head.head in
+    let roads = vec_items c.in_ok-roads.roads in
     let b = c.args.from.now.bytes.now in
     let at = c.args.from.now.at in
     sound_map h.places roads
     (chart_sound b at c.read-records.new.from.at (record { places = h.places; roads = roads })
-    (roads_got vec_items b c.begin.new.self.bytes.now at c.read-record.new.from.at c.begin.new.self.at c.read-records.new.from.at h c.in-ok-roads.roads
+    (roads_got vec_items b c.begin.new.self.bytes.now at c.read-record.new.from.at c.begin.new.self.at c.read-records.new.from.at h c.in_ok-roads.roads
     c.read-record.result c.read-records.result
-    c.in-ok-head.was c.read-record.ensures.value c.read-record.ensures.at (c.begin.ensures.same ∙ c.read-record.ensures.same) c.begin.ensures.at
-    c.in-ok-roads.was c.read-records.ensures.told))
+    c.in_ok-head.was c.read-record.ensures.value c.read-record.ensures.at (c.begin.ensures.same ∙ c.read-record.ensures.same) c.begin.ensures.at
+    c.in_ok-roads.was c.read-records.ensures.told))
 
 pub returns : goal.returns
 returns c =
-    let h = c.in-ok-head.head in
+    let h = c.in_ok-head.head in
     let b = c.args.from.now.bytes.now in
     let at = c.args.from.now.at in
     let q = c.read-records.new.from.at in
     record {
-      told = told_ok charted (read_roads b at) c.in-ok-map.map q
-          (roads_got vec_items b c.begin.new.self.bytes.now at c.read-record.new.from.at c.begin.new.self.at q h c.in-ok-roads.roads
+      told = told_ok charted (read_roads b at) c.in_ok-map.map q
+          (roads_got vec_items b c.begin.new.self.bytes.now at c.read-record.new.from.at c.begin.new.self.at q h c.in_ok-roads.roads
           c.read-record.result c.read-records.result
-          c.in-ok-head.was c.read-record.ensures.value c.read-record.ensures.at (c.begin.ensures.same ∙ c.read-record.ensures.same) c.begin.ensures.at
-          c.in-ok-roads.was c.read-records.ensures.told
-          ∙ ap (λ (z : Charted). Got z q) (sym c.in-ok-map.ensures));
+          c.in_ok-head.was c.read-record.ensures.value c.read-record.ensures.at (c.begin.ensures.same ∙ c.read-record.ensures.same) c.begin.ensures.at
+          c.in_ok-roads.was c.read-records.ensures.told
+          ∙ ap (λ (z : Charted). Got z q) (sym c.in_ok-map.ensures));
       same = search rules;
     }

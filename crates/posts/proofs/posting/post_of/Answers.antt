@@ -29,7 +29,7 @@ unreachable-requires c =
     let z = map_in s in
     let n : c.len-n.result ≡ z.n = c.len-n.ensures ∙ ap (λ (x : RoadMapBuf). x.n) (c.map.ensures ∙ ap (λ (x : Survey). x.map) c.survey.ensures) in
     turn_taken z (marks_of s) c.args.u c.loop-v.v (omega (arith, n, c.loop-v-test.true)) (told c.loop-v.post) c.loop-v.invariant
-    c.line-of-line.result (told c.push.new.self) c.push.result c.line-of-line.ensures (omega (arith, c.if-len-ge255.false, c.len.ensures)) c.push.ensures c.in-default.field-0 c.in-default.is
+    c.line-of-line.result (told c.push.new.self) c.push.result c.line-of-line.ensures (omega (arith, c.if-len-ge255.false, c.len.ensures)) c.push.ensures c.in_default.field-0 c.in_default.is
 
 pub loop-v-preserved : goal.loop-v-preserved
 loop-v-preserved c =

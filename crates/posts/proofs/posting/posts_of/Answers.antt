@@ -29,7 +29,7 @@ pub loop-u-preserved : goal.loop-u-preserved
 loop-u-preserved c =
     let s = c.args.land.now in
     let old = vec_items c.loop-u.posts in
-    let j : vec_items c.push.new.self ≡ old ++ c.in-Ok.post ∷ [] = pushed (c.in-Ok.post ∷ []) refl c.in-ok-push.was c.push.ensures.items in
+    let j : vec_items c.push.new.self ≡ old ++ c.in-Ok.post ∷ [] = pushed (c.in-Ok.post ∷ []) refl c.in_ok-push.was c.push.ensures.items in
     let long : length old ≡ c.loop-u.u = sym c.loop-u.posts.ok.0 ∙ c.loop-u.invariant.0 in (
       omega (arith, c.push.new.self.ok.0, ap length j, length_push old c.in-Ok.post, long),
       all_more old (vec_items c.push.new.self) c.in-Ok.post c.loop-u.u (post_of (map_in s) (marks_of s)) long j c.in-Ok.ensures.1 c.loop-u.invariant.1,

@@ -21,5 +21,5 @@ pub loop-i-preserved : goal.loop-i-preserved
 loop-i-preserved g c = (
   search rules,
   turn (one g.T.Recorded.shape c.args.n) c.loop-i.last c.loop-i.from.at (vec_items c.loop-i.items) (omega arith) c.loop-i.invariant.0 c.loop-i.invariant.1
-      c.in-ok-item.was c.read-record.ensures.value c.read-record.ensures.at c.in-ok-push.was c.push.ensures.items,
+      c.in_ok-item.was c.read-record.ensures.value c.read-record.ensures.at c.in_ok-push.was c.push.ensures.items,
 )

@@ -13,7 +13,7 @@ pub loop-item-preserved : goal.loop-item-preserved
 loop-item-preserved g c =
     joined_turn g.T.Put.writes c.args.items.now c.loop-item.item-index c.item-item.result (vec_items c.args.out.now) (vec_items c.loop-item.out) _
     (omega arith) c.loop-item.invariant
-    (c.in-default.ensures ∙ ap (λ x. vec_items c.loop-item.out ++ g.T.Put.writes x) c.item-item.is)
+    (c.in_default.ensures ∙ ap (λ x. vec_items c.loop-item.out ++ g.T.Put.writes x) c.item-item.is)
 
 pub returns : goal.returns
 returns g c = joined_end g.T.Put.writes c.args.items.now c.loop-item.item-index (vec_items c.args.out.now) _ (omega arith) c.loop-item.invariant

@@ -5,19 +5,19 @@ use Rattle.maps.proofs.Views.{view_is}
 use Rattle.distances.proofs.Surveyed.{fars_of, hops_of}
 use Rattle.distances.proofs.survey.Survey.new.Goals as goal
 
-pub invariant-of-result : goal.invariant-of-result
-invariant-of-result c =
+pub invariant_of-result : goal.invariant_of-result
+invariant_of-result c =
     let b = c.args.map in
     let e = view_is c.map.result b.n (vec_items b.roads) c.map.ensures.n c.map.ensures.same in
-    let w = c.in-ok-all-rows.ensures in
-    let dl : length c.all-rows.new.dist ≡ c.in-ok-dist.dist.len = c.all-rows.auto.dist ∙ c.deref-mut.ensures.len in
-    let nl : length c.all-rows.new.next ≡ c.in-ok-next.next.len = c.all-rows.auto.next ∙ c.deref-mut-2.ensures.len in (
+    let w = c.in_ok-all_rows.ensures in
+    let dl : length c.all_rows.new.dist ≡ c.in_ok-dist.dist.len = c.all_rows.auto.dist ∙ c.deref_mut.ensures.len in
+    let nl : length c.all_rows.new.next ≡ c.in_ok-next.next.len = c.all_rows.auto.next ∙ c.deref_mut-2.ensures.len in (
       search rules,
       (
         search rules,
         (
-          fars_of (chart c.map.result) (ground b) b.n c.all-rows.new.dist _ (take_at c.all-rows.new.dist _ c.in-ok-dist.dist.len dl) e refl w.2,
-          (hops_of (chart c.map.result) (ground b) b.n c.all-rows.new.next _ (take_at c.all-rows.new.next _ c.in-ok-next.next.len nl) e refl w.3, tt),
+          fars_of (chart c.map.result) (ground b) b.n c.all_rows.new.dist _ (take_at c.all_rows.new.dist _ c.in_ok-dist.dist.len dl) e refl w.2,
+          (hops_of (chart c.map.result) (ground b) b.n c.all_rows.new.next _ (take_at c.all_rows.new.next _ c.in_ok-next.next.len nl) e refl w.3, tt),
         ),
       ),
     )

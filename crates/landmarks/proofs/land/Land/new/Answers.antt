@@ -20,7 +20,7 @@ returns-in-default c =
     let b = c.args.survey.map in
     let n : c.len-n.result ≡ b.n = c.len-n.ensures ∙ ap (λ (x : RoadMapBuf). x.n) c.map.ensures in
     found_none (ground b) (marks_in (vec_items c.args.marks)) c.loop-v.v (omega (arith, n, c.loop-v-test.true))
-    (c.in-default.ensures ∙ ap (λ (xs : List Bool). landmark_in (ground b) (marks_in xs) c.loop-v.v) c.deref.ensures.value)
+    (c.in_default.ensures ∙ ap (λ (xs : List Bool). landmark_in (ground b) (marks_in xs) c.loop-v.v) c.deref.ensures.value)
 
 pub returns-in-err-push : goal.returns-in-err-push
 returns-in-err-push c =
@@ -36,7 +36,7 @@ loop-v-preserved c =
     let none : Nearest = record { place = 0; away = 0 } in
     let old = vec_items c.loop-v.nearest in
     let n : c.len-n.result ≡ b.n = c.len-n.ensures ∙ ap (λ (x : RoadMapBuf). x.n) c.map.ensures in
-    let j : vec_items c.push.new.self ≡ old ++ c.in-Some.found ∷ [] = pushed (c.in-Some.found ∷ []) refl c.in-ok-push.was c.push.ensures.items in
+    let j : vec_items c.push.new.self ≡ old ++ c.in-Some.found ∷ [] = pushed (c.in-Some.found ∷ []) refl c.in_ok-push.was c.push.ensures.items in
     let long : length old ≡ v = sym c.loop-v.nearest.ok.0 ∙ c.loop-v.invariant.0 in
     let told : Some c.in-Some.found ≡ landmark_in z l v = c.in-Some.ensures ∙ ap (λ (xs : List Bool). landmark_in z (marks_in xs) v) c.deref.ensures.value in
     let vn : v < z.n = omega (arith, n, c.loop-v-test.true) in
