@@ -8,8 +8,8 @@ use Rattle.walking.proofs.Turns.{turn_over, turn_gone, travels_none, gone_cheap,
 use Rattle.walking.proofs.Trails.{trail_ends, trail_over, trail_gone, passes}
 use Rattle.walking.proofs.noting.walk_noting.Goals as goal
 
-pub overflow-add-cost : goal.overflow-add-cost
-overflow-add-cost c = omega (arith, c.loop-i.invariant.1, gone_cheap (chart c.args.map.now) c.loop-i.cost c.loop-i.at c.in-Gone.place c.in-Gone.toll (step_of (posts_in c.args.posts.now c.loop-i.at) c.args.card c.loop-i.at) (view_means c.args.map.now).cheap c.in-Gone.ensures, (view_arcs c.args.map.now).few, c.loop-i-test.true)
+pub overflow_add-cost : goal.overflow_add-cost
+overflow_add-cost c = omega (arith, c.loop-i.invariant.1, gone_cheap (chart c.args.map.now) c.loop-i.cost c.loop-i.at c.in-Gone.place c.in-Gone.toll (step_of (posts_in c.args.posts.now c.loop-i.at) c.args.card c.loop-i.at) (view_means c.args.map.now).cheap c.in-Gone.ensures, (view_arcs c.args.map.now).few, c.loop-i-test.true)
 
 pub returns-in-Over : goal.returns-in-Over
 returns-in-Over c =
@@ -17,13 +17,13 @@ returns-in-Over c =
     let posts = posts_in c.args.posts.now in
     let m = 2 * c.args.map.now.n in
     let e : c.in-Over.end ≡ walk_of z posts c.args.card c.args.from =
-    turn_over z posts c.args.card m c.loop-i.-i c.loop-i.cost c.loop-i.at (omega (arith, c.loop-i-test.true)) c.in-Over.end c.in-Over.ensures ∙ c.loop-i.invariant.0 in
+    turn_over z posts c.args.card m c.loop-i._i c.loop-i.cost c.loop-i.at (omega (arith, c.loop-i-test.true)) c.in-Over.end c.in-Over.ensures ∙ c.loop-i.invariant.0 in
     record {
       end = e;
       promise = keeps z posts c.args.card c.args.from c.in-Over.end (view_means c.args.map.now) e;
       way = passes z posts c.args.card c.args.from c.in-Over.end e;
       passed =
-          trail_over z posts c.args.card m c.loop-i.-i c.loop-i.cost c.loop-i.at (vec_items c.loop-i.passed) (omega (arith, c.loop-i-test.true)) c.in-Over.end c.in-Over.ensures
+          trail_over z posts c.args.card m c.loop-i._i c.loop-i.cost c.loop-i.at (vec_items c.loop-i.passed) (omega (arith, c.loop-i-test.true)) c.in-Over.end c.in-Over.ensures
           ∙ c.loop-i.invariant.2
           ∙ ap (λ xs. xs ++ trail_of z posts c.args.card c.args.from) c.reserve.ensures.items;
     }
@@ -33,12 +33,12 @@ loop-i-preserved c =
     let z = chart c.args.map.now in
     let posts = posts_in c.args.posts.now in
     let m = 2 * c.args.map.now.n in (
-      turn_gone z posts c.args.card m c.loop-i.-i c.loop-i.cost c.loop-i.at (omega (arith, c.loop-i-test.true)) c.in-Gone.place c.in-Gone.toll c.in-Gone.ensures ∙ c.loop-i.invariant.0,
+      turn_gone z posts c.args.card m c.loop-i._i c.loop-i.cost c.loop-i.at (omega (arith, c.loop-i-test.true)) c.in-Gone.place c.in-Gone.toll c.in-Gone.ensures ∙ c.loop-i.invariant.0,
       omega (arith, c.loop-i.invariant.1, gone_cheap (chart c.args.map.now) c.loop-i.cost c.loop-i.at c.in-Gone.place c.in-Gone.toll (step_of (posts_in c.args.posts.now c.loop-i.at) c.args.card c.loop-i.at) (view_means c.args.map.now).cheap c.in-Gone.ensures),
-      ap (λ xs. xs ++ trail (m - (c.loop-i.-i + 1)) z posts c.args.card c.in-Gone.place) c.push-reserved.ensures.items
-          ∙ trail_gone z posts c.args.card m c.loop-i.-i c.loop-i.cost c.loop-i.at (vec_items c.loop-i.passed) (omega (arith, c.loop-i-test.true)) c.in-Gone.place c.in-Gone.toll c.in-Gone.ensures
+      ap (λ xs. xs ++ trail (m - (c.loop-i._i + 1)) z posts c.args.card c.in-Gone.place) c.push_reserved.ensures.items
+          ∙ trail_gone z posts c.args.card m c.loop-i._i c.loop-i.cost c.loop-i.at (vec_items c.loop-i.passed) (omega (arith, c.loop-i-test.true)) c.in-Gone.place c.in-Gone.toll c.in-Gone.ensures
           ∙ c.loop-i.invariant.2,
-      omega (arith, c.loop-i.invariant.3, c.push-reserved.ensures.len, c.push-reserved.ensures.capacity, c.loop-i-test.true),
+      omega (arith, c.loop-i.invariant.3, c.push_reserved.ensures.len, c.push_reserved.ensures.capacity, c.loop-i-test.true),
     )
 
 pub returns : goal.returns
@@ -46,15 +46,15 @@ returns c =
     let z = chart c.args.map.now in
     let posts = posts_in c.args.posts.now in
     let m = 2 * c.args.map.now.n in
-    let none : m - c.loop-i.-i ≡ 0 = omega (arith, c.loop-i-test.false) in
+    let none : m - c.loop-i._i ≡ 0 = omega (arith, c.loop-i-test.false) in
     let e : Worn ≡ walk_of z posts c.args.card c.args.from =
-    sym (travels_none (m - c.loop-i.-i) z posts c.args.card c.loop-i.cost c.loop-i.at none) ∙ c.loop-i.invariant.0 in
+    sym (travels_none (m - c.loop-i._i) z posts c.args.card c.loop-i.cost c.loop-i.at none) ∙ c.loop-i.invariant.0 in
     record {
       end = e;
       promise = keeps z posts c.args.card c.args.from Worn (view_means c.args.map.now) e;
       way = passes z posts c.args.card c.args.from Worn e;
       passed =
-          trail_ends (m - c.loop-i.-i) z posts c.args.card c.loop-i.at (vec_items c.loop-i.passed) none
+          trail_ends (m - c.loop-i._i) z posts c.args.card c.loop-i.at (vec_items c.loop-i.passed) none
           ∙ c.loop-i.invariant.2
           ∙ ap (λ xs. xs ++ trail_of z posts c.args.card c.args.from) c.reserve.ensures.items;
     }

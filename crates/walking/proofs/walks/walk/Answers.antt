@@ -12,14 +12,14 @@ returns-in-Over c =
     let z = chart c.args.map.now in
     let posts = posts_in c.args.posts.now in
     let e : c.in-Over.end ≡ walk_of z posts c.args.card c.args.from =
-    turn_over z posts c.args.card (2 * c.args.map.now.n) c.loop-i.-i c.loop-i.cost c.loop-i.at (omega (arith, c.loop-i-test.true)) c.in-Over.end c.in-Over.ensures ∙ c.loop-i.invariant.0 in
+    turn_over z posts c.args.card (2 * c.args.map.now.n) c.loop-i._i c.loop-i.cost c.loop-i.at (omega (arith, c.loop-i-test.true)) c.in-Over.end c.in-Over.ensures ∙ c.loop-i.invariant.0 in
     record { end = e; promise = keeps z posts c.args.card c.args.from c.in-Over.end (view_means c.args.map.now) e }
 
 pub loop-i-preserved : goal.loop-i-preserved
 loop-i-preserved c =
     let z = chart c.args.map.now in
     let posts = posts_in c.args.posts.now in (
-      turn_gone z posts c.args.card (2 * c.args.map.now.n) c.loop-i.-i c.loop-i.cost c.loop-i.at (omega (arith, c.loop-i-test.true)) c.in-Gone.place c.in-Gone.toll c.in-Gone.ensures ∙ c.loop-i.invariant.0,
+      turn_gone z posts c.args.card (2 * c.args.map.now.n) c.loop-i._i c.loop-i.cost c.loop-i.at (omega (arith, c.loop-i-test.true)) c.in-Gone.place c.in-Gone.toll c.in-Gone.ensures ∙ c.loop-i.invariant.0,
       omega (arith, c.loop-i.invariant.1, gone_cheap z c.loop-i.cost c.loop-i.at c.in-Gone.place c.in-Gone.toll (step_of (posts c.loop-i.at) c.args.card c.loop-i.at) (view_means c.args.map.now).cheap c.in-Gone.ensures),
     )
 
@@ -28,5 +28,5 @@ returns c =
     let z = chart c.args.map.now in
     let posts = posts_in c.args.posts.now in
     let e : Worn ≡ walk_of z posts c.args.card c.args.from =
-    sym (travels_none (2 * c.args.map.now.n - c.loop-i.-i) z posts c.args.card c.loop-i.cost c.loop-i.at (omega (arith, c.loop-i-test.false))) ∙ c.loop-i.invariant.0 in
+    sym (travels_none (2 * c.args.map.now.n - c.loop-i._i) z posts c.args.card c.loop-i.cost c.loop-i.at (omega (arith, c.loop-i-test.false))) ∙ c.loop-i.invariant.0 in
     record { end = e; promise = keeps z posts c.args.card c.args.from Worn (view_means c.args.map.now) e }

@@ -11,5 +11,5 @@ returns-then-at-posts c =
 
 pub returns-else-at-posts : goal.returns-else-at-posts
 returns-else-at-posts c =
-    c.step-without-post.ensures
+    c.step_without_post.ensures
     ∙ ap (λ lines. step_of lines c.args.self.card c.args.self.at) (no_post c.args.posts.now c.args.self.at c.if-at-posts.false)
