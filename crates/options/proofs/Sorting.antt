@@ -1,5 +1,5 @@
 -- What a word of a command line is: the tests on it, one after the other. Assumes nothing.
-use Rattle.std.proofs.Common.{◌≡◌, ℕ, ◌+◌, ◌<◌, Bool, true, false, cond, not, ◌||◌, eqb, List, map, length, get_or, drop, Some, None, codes, Decides, sym, refl, ap, ◌∙◌, arith}
+use Rattle.std.proofs.Common.{◌≡◌, ℕ, ◌+◌, ◌<◌, Bool, true, false, cond, not, ◌||◌, eqb, List, map, length, get_or, drop, Some, None, codes, sym, ap, ◌∙◌}
 use Rattle.std.proofs.lemmas.List.{at_drop_more, nil_from_length}
 use Rattle.std.proofs.lemmas.Bool.{eqb-true}
 use Rattle.std.specs.Str.{bytes_eq}
@@ -7,7 +7,7 @@ use Rattle.options.specs.Items.{File, Plain, Any, Of, Files, is_file, wants_in, 
 use Rattle.options.proofs.Texts.{same_is}
 
 -- ---- the options that want a word, one after the other
-module _ {X : Type 0} (f : X → List ℕ) (xs : List X) (i : ℕ) (d : X) (option : List ℕ) (r : Bool) (within : i < length xs) (test : Decides r (f (get_or xs i d) ≡ option)) where
+module _ {X : Type 0} (f : X → List ℕ) (xs : List X) (i : ℕ) (d : X) (option : List ℕ) (r : Bool) (within : i < length xs) (test : r ≡ bytes_eq (f (get_or xs i d)) option) where
   next : wants_in (map f (drop i xs)) option ≡ cond r true (wants_in (map f (drop (i + 1) xs)) option)
   next =
       at_drop_more (λ ys. wants_in (map f ys) option) xs i d within
@@ -23,7 +23,7 @@ module _ {X : Type 0} (f : X → List ℕ) (xs : List X) (i : ℕ) (d : X) (opti
 pub empty_file : (w : List ℕ) → eqb (length w) 0 ≡ true → is_file w ≡ true
 empty_file w e = ap is_file (nil_from_length w (eqb-true (length w) 0 e))
 
-pub file_by_first : (w : List ℕ) (r : Bool) → Decides r (w ≡ codes "-") → r ≡ false → is_file w ≡ not (eqb (get_or w 0 0) 45)
+pub file_by_first : (w : List ℕ) (r : Bool) → r ≡ bytes_eq w (codes "-") → r ≡ false → is_file w ≡ not (eqb (get_or w 0 0) 45)
 file_by_first w r h e = ap (λ b. b || not (eqb (get_or w 0 0) 45)) (same_is w (codes "-") r h ∙ e)
 
 -- ---- a word that may be an option
