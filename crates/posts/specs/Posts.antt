@@ -7,7 +7,7 @@
 --   told      the lines that a post in memory holds
 --   find_in    the line for a place among some lines
 --   place_at   the place that the line at an index names
-use Rattle.std.specs.Prelude.{◌≡◌, ℕ, zero, suc, ◌+◌, Bool, true, false, cond, List, [], ◌∷◌, take, Some, None, Option, ◌==◌, slice_index_or}
+use Rattle.std.specs.Prelude.{ℕ, zero, suc, ◌+◌, false, cond, List, [], ◌∷◌, take, Some, None, Option, ◌==◌, slice_index_or}
 use Rattle.ways.specs.Map.{Map, hop}
 use Rattle.distances.specs.Rows.{hop_number}
 use Rattle.landmarks.specs.Landmarks.{Marks, near, on_post}

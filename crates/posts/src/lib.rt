@@ -1,4 +1,6 @@
 // Posts: lines, and the post at a place.
+#![tactic(auto)]
+
 pub mod kinds;
 pub mod post;
 pub mod posting;

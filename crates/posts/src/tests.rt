@@ -22,7 +22,7 @@ fn lines_stand_in_their_order(rt: HostRuntime) {
     assert_eq!(rt; Post::new().len(), 0);
     let post = post(&[2, 5, 9]);
     assert_eq!(rt; post.len(), 3);
-    assert_eq!(rt; post.lines(), &[line(2), line(5), line(9)]);
+    assert_eq!(rt; post.lines(), [line(2), line(5), line(9)].as_slice());
 }
 
 #[test]
@@ -30,7 +30,7 @@ fn a_place_not_above_the_last_is_refused(rt: HostRuntime) {
     let mut post = post(&[2, 5]);
     assert_eq!(rt; post.push(line(5)).err(), Some(Refused::Order));
     assert_eq!(rt; post.push(line(2)).err(), Some(Refused::Order));
-    assert_eq!(rt; post.lines(), &[line(2), line(5)]);
+    assert_eq!(rt; post.lines(), [line(2), line(5)].as_slice());
     assert_eq!(rt; post.push(line(6)).err(), None);
     assert_eq!(rt; post.len(), 3);
 }

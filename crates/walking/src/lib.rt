@@ -1,4 +1,6 @@
 // Walking: a step, a walk, and the promise of the whole.
+#![tactic(auto)]
+
 pub mod kinds;
 pub mod laws;
 pub mod noting;

@@ -96,6 +96,6 @@ fn the_places_passed(rt: HostRuntime) -> Result<(), Fail> {
     let mut passed = Vec::new(rt.alloc());
     let end = walk_noting(&map.map(), &posts(), card(3), 0, &mut passed)?;
     assert_eq!(rt; end, End::Arrived(3));
-    assert_eq!(rt; passed.as_slice(), &[1, 2, 3]);
+    assert_eq!(rt; passed.as_slice(), [1, 2, 3].as_slice());
     Ok(())
 }

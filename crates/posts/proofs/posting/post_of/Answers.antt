@@ -1,4 +1,4 @@
-use Rattle.std.proofs.Common.{◌≡◌, ℕ, ◌<◌, true, sym, ap, ◌∙◌, arith}
+use Rattle.std.proofs.Common.{◌≡◌, ◌<◌, true, sym, ap, ◌∙◌, arith}
 use Rattle.distances.specs.declared.survey.Survey.{Survey}
 use Rattle.landmarks.specs.Landmarks.{on_post}
 use Rattle.landmarks.specs.Lands.{map_in, marks_of}
@@ -8,7 +8,6 @@ use Rattle.posts.proofs.Turns.{turn_full, turn_off, turn_on, turn_taken, within_
 use Rattle.posts.proofs.posting.post_of.Goals as goal
 use Rattle.posts.proofs.posting.post_of.Goals.{else-on_post, then-on_post+else-len-ge255+in-Ok}
 use Rattle.posts.specs.Posts.{told}
-use Rattle.posts.specs.declared.kinds.Post.{Post}
 
 pub loop-v-init : goal.loop-v-init
 loop-v-init c = c.new-post.ensures ∙ sym (lines_start (map_in c.args.land.now) (marks_of c.args.land.now) c.args.u)

@@ -1,4 +1,4 @@
-use Rattle.std.proofs.Common.{◌≡◌, ℕ, ◌+◌, ◌<◌, List, [], ◌∷◌, ◌++◌, length, Err, vec_items, Result, Vec, sym, refl, ap, ◌∙◌, subst, arith}
+use Rattle.std.proofs.Common.{◌≡◌, [], ◌∷◌, ◌++◌, length, Err, vec_items, Result, Vec, sym, refl, ap, ◌∙◌, subst, arith}
 use Rattle.distances.specs.declared.survey.Survey.{Survey}
 use Rattle.landmarks.specs.Lands.{map_in, marks_of}
 use Rattle.maps.specs.declared.buf.RoadMapBuf.{RoadMapBuf}

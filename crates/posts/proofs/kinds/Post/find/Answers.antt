@@ -1,5 +1,5 @@
 -- The line in the middle is the one that is found, or half of the lines are done with. Assumes nothing.
-use Rattle.std.proofs.Common.{ℕ, ◌+◌, ◌-◌, ◌/◌, ◌<◌, ◌≤◌, sym, inl, inr, arith}
+use Rattle.std.proofs.Common.{◌+◌, ◌-◌, ◌/◌, sym, inl, inr, arith}
 use Rattle.std.proofs.lemmas.Bool.{cases_eq, cases_lt}
 use Rattle.posts.proofs.Rising.{rising_below, find_at, find_no}
 use Rattle.posts.proofs.kinds.Post.find.Goals as goal
