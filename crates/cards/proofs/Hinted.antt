@@ -1,8 +1,7 @@
 -- The hint of a card, from the numbers that the code looks up. Assumes nothing.
-use Rattle.std.proofs.Common.{◌≡◌, ℕ, ◌<◌, ◌≤◌, Bool, cond, eqb, sym, refl, ap, ◌∙◌, arith}
+use Rattle.std.proofs.Common.{◌≡◌, ℕ, ◌<◌, ◌≤◌, Bool, cond, sym, refl, ap, ◌∙◌, arith}
 use Rattle.std.proofs.lemmas.Bool.{ne_eqb}
 use Rattle.cards.specs.Cards.{hint_from, hint_of}
-use Rattle.cards.specs.declared.kinds.Hint.{Hint}
 use Rattle.cards.specs.declared.kinds.Hint.TheVariants.{Next, Unneeded}
 use Rattle.distances.proofs.Surveyed.{chosen_in}
 use Rattle.distances.specs.Rows.{hop_number}

@@ -1,18 +1,18 @@
 -- The first arc that begins a cheapest way leads to the next place. Assumes nothing.
-use Rattle.std.proofs.Common.{◌≡◌, ℕ, zero, suc, ◌+◌, ◌-◌, ◌^◌, ◌<◌, ◌≤◌, ◌⊎◌, List, length, get_or, sym, refl, ap, ◌∙◌, subst, inl, inr, arith}
+use Rattle.std.proofs.Common.{◌≡◌, ℕ, ◌+◌, ◌-◌, ◌^◌, ◌<◌, List, length, get_or, sym, refl, ap, ◌∙◌, subst, inl, inr, arith}
 use Rattle.std.proofs.lemmas.Bool.{cases_eq, cases_lt}
-use Rattle.ways.specs.Map.{Map, Far, Never, At, far, Hop, Nowhere, To, hop}
-use Rattle.ways.specs.Laws.{Closer, NextPlace}
-use Rattle.ways.proofs.Fars.{at_same, never_at}
+use Rattle.ways.specs.Map.{At, far, Hop, Nowhere, To, hop}
+use Rattle.ways.specs.Laws.{Closer}
+use Rattle.ways.proofs.Fars.{at_same}
 use Rattle.ways.proofs.Certified.{certified}
 use Rattle.ways.proofs.NextPlaces.{next_place}
-use Rattle.maps.specs.Arcs.{Arcs, arc_part}
+use Rattle.maps.specs.Arcs.{arc_part}
 use Rattle.maps.specs.Charts.{chart}
 use Rattle.maps.specs.declared.map.RoadMap.{RoadMap}
 use Rattle.maps.proofs.Views.{view_arcs}
 use Rattle.maps.proofs.ArcParts.{part_length, part_at, part_inside, parts_level}
-use Rattle.maps.proofs.Costs.{arc_cost, road_arc, arcs_rise, starts_most}
-use Rattle.distances.specs.Rows.{far_number, hop_number, FarRow}
+use Rattle.maps.proofs.Costs.{arc_cost, road_arc, arcs_rise}
+use Rattle.distances.specs.Rows.{hop_number, FarRow}
 use Rattle.distances.specs.Steps.{Leads, FirstOn}
 use Rattle.distances.proofs.Numbers.{number_at, at_number}
 

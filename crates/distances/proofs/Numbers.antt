@@ -1,6 +1,6 @@
 -- Distances as numbers of 32 bits: each number stands for one distance. Assumes nothing.
-use Rattle.std.proofs.Common.{◌≡◌, ℕ, zero, suc, ◌+◌, ◌*◌, ◌<◌, ◌≤◌, Bool, true, false, ◌⊎◌, List, length, get_or, sym, refl, ap, ◌∙◌, inl, inr, arith}
-use Rattle.ways.specs.Map.{Map, Far, Never, At, far, some}
+use Rattle.std.proofs.Common.{◌≡◌, ℕ, ◌<◌, ◌≤◌, true, false, List, get_or, sym, refl, ap, ◌∙◌, inl, inr, arith}
+use Rattle.ways.specs.Map.{Far, Never, At, far, some}
 use Rattle.ways.specs.Ways.{hangs_together}
 use Rattle.ways.proofs.LeastWays.{far_cheap}
 use Rattle.ways.proofs.Hanging.{all_at, all_from}

@@ -1,8 +1,8 @@
 -- Dijkstra's argument over what the code holds: distances in a list, and the keys of the places that wait. Assumes nothing.
-use Rattle.std.proofs.Common.{◌≡◌, ℕ, zero, suc, ◌+◌, ◌-◌, ◌*◌, ◌<◌, ◌≤◌, Bool, true, false, cond, ◌&&◌, eqb, ltb, leb, ◌⊎◌, List, length, get_or, set, replicate, sym, refl, ap, ◌∙◌, inl, inr, arith, length-set, get_or-set_other, get_or-set_same}
+use Rattle.std.proofs.Common.{◌≡◌, ℕ, ◌+◌, ◌-◌, ◌*◌, ◌<◌, ◌≤◌, Bool, true, false, cond, ◌&&◌, eqb, ltb, leb, ◌⊎◌, List, length, get_or, set, replicate, sym, refl, ap, ◌∙◌, inl, inr, arith, length-set, get_or-set_other, get_or-set_same}
 use Rattle.std.proofs.lemmas.List.{get_or-replicate, length-replicate}
-use Rattle.std.proofs.lemmas.Bool.{cases_eq, cases_lt, cases_Bool, eq-eqb, ne_eqb, and_parts, and_from, and_left, and_right, lt-ltb, le-ltb, le-leb, lt-leb, ltb-true, leb-true, leb-false, ltb-false, and_cases, both_ways}
-use Rattle.ways.specs.Map.{Map, Far, Never, At, far}
+use Rattle.std.proofs.lemmas.Bool.{cases_eq, cases_lt, cases_Bool, eq-eqb, ne_eqb, and_from, and_left, and_right, lt-ltb, le-ltb, le-leb, lt-leb, both_ways}
+use Rattle.ways.specs.Map.{Map, Never, At}
 use Rattle.ways.specs.Ways.{Distances, count_below}
 use Rattle.ways.proofs.Counting.{count_most, count_none, count_more}
 use Rattle.ways.proofs.Settling.{read_at, Going, going_start, going_more, going_end}

@@ -1,5 +1,5 @@
 -- One turn of the search, over a map in memory and the queue as the code has it. Assumes nothing.
-use Rattle.std.proofs.Common.{◌≡◌, ℕ, ◌+◌, ◌-◌, ◌^◌, ◌<◌, ◌≤◌, List, length, get_or, Some, None, sym, refl, ap, ◌∙◌, subst, arith}
+use Rattle.std.proofs.Common.{◌≡◌, ℕ, ◌+◌, ◌-◌, ◌^◌, ◌<◌, List, length, get_or, Some, None, sym, refl, ap, ◌∙◌, subst, arith}
 use Rattle.ways.specs.Ways.{count_below}
 use Rattle.ways.proofs.Counting.{count_most}
 use Rattle.maps.specs.Arcs.{arc_part}
@@ -7,10 +7,10 @@ use Rattle.maps.specs.Charts.{chart}
 use Rattle.maps.specs.declared.map.RoadMap.{RoadMap}
 use Rattle.maps.proofs.Views.{view_arcs}
 use Rattle.maps.proofs.ArcParts.{part_length, part_at, part_inside, parts_level}
-use Rattle.distances.specs.Keys.{empty, leaf, Moved, Popped}
+use Rattle.distances.specs.Keys.{Popped}
 use Rattle.distances.specs.Rows.{FarRow}
 use Rattle.distances.specs.Steps.{Followed}
-use Rattle.distances.proofs.Searching.{none, settled, Searching, searching_room, searching_more, settled_more, searching_end}
+use Rattle.distances.proofs.Searching.{settled, Searching, searching_room, searching_more, settled_more, searching_end}
 
 module _ (m : RoadMap) (d : ℕ) (dn : d < m.n) (dist keys : List ℕ) (o : Searching (chart m) m.n d dist keys) where
   module _ (q : ℕ) (qn : q ≡ m.n) (u : ℕ) (keys₁ : List ℕ) (p : Popped q keys keys₁ (Some u)) where

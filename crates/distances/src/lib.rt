@@ -1,4 +1,6 @@
 // Distances and next places: one row, all rows, whether a map hangs together, and a map surveyed.
+#![tactic(auto)]
+
 mod dijkstra;
 pub mod joined;
 mod nexts;

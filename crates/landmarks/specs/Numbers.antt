@@ -1,5 +1,5 @@
 -- Landmarks in numbers, as the code has them. Assumes nothing.
-use Rattle.std.specs.Prelude.{◌≡◌, ℕ, cond, Some, None, Option, nat_lt}
+use Rattle.std.specs.Prelude.{ℕ, cond, Some, None, Option, nat_lt}
 use Rattle.distances.specs.Rows.{far_number}
 use Rattle.landmarks.specs.Landmarks.{Is, Mark, Marks, NoMark, mark_of}
 use Rattle.landmarks.specs.declared.kinds.Nearest.{Nearest}

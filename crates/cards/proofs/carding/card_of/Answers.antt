@@ -1,8 +1,7 @@
-use Rattle.std.proofs.Common.{◌≡◌, ℕ, ◌<◌, Bool, cond, ltb, Some, None, Option, sym, ap, ◌∙◌}
+use Rattle.std.proofs.Common.{◌≡◌, ℕ, ◌<◌, Bool, cond, ltb, Some, None, sym, ap, ◌∙◌}
 use Rattle.cards.proofs.Hinted.{hint_is, place_number}
 use Rattle.cards.proofs.carding.card_of.Goals as goal
 use Rattle.cards.specs.Cards.{card_of, hint_from}
-use Rattle.cards.specs.declared.kinds.Card.{Card}
 use Rattle.cards.specs.declared.kinds.Hint.{Hint}
 use Rattle.distances.proofs.Surveyed.{ground_few}
 use Rattle.distances.specs.Surveys.{hop_in}
@@ -25,10 +24,10 @@ returns c =
     let vn : v < z.n = ltb-true v z.n f.0 in
     let few = ground_few s.survey.map in
     let p : c.in-Some.found.place ≡ place_of (mark_of z l v) = ap (λ (x : Nearest). x.place) f.1 ∙ place_number (mark_of z l v) in
-    let h : c.of-number.result ≡ (card_of z l v).hint =
-    c.of-number.ensures.read
+    let h : c.of_number.result ≡ (card_of z l v).hint =
+    c.of_number.ensures.read
     ∙ ap hint_from (c.hop-next.ensures ∙ ap (λ (x : Survey). hop_in (ground x.map) v c.in-Some.found.place) c.survey.ensures ∙ ap (λ (k : ℕ). hop_in z v k) p)
     ∙ hint_is z l v few.0 few.1 vn in
-    ap (λ (k : ℕ). Some (record { place = v; landmark = k; hint = c.of-number.result })) p
+    ap (λ (k : ℕ). Some (record { place = v; landmark = k; hint = c.of_number.result })) p
     ∙ ap (λ (x : Hint). Some (record { place = v; landmark = place_of (mark_of z l v); hint = x })) h
     ∙ ap (λ (t : Bool). cond t (Some (card_of z l v)) None) (sym f.0)

@@ -1,9 +1,9 @@
-use Rattle.std.proofs.Common.{◌≡◌, ℕ, ◌<◌, List, length, get_or, set, replicate, sym, refl, ap, ◌∙◌, subst, arith}
+use Rattle.std.proofs.Common.{◌≡◌, ℕ, List, set, replicate, sym, refl, ap, ◌∙◌, subst, arith}
 use Rattle.maps.specs.Charts.{chart}
 use Rattle.maps.proofs.Views.{view_arcs}
 use Rattle.distances.specs.Keys.{key_of, Moved}
 use Rattle.distances.proofs.Searching.{none, Searching, searching_start}
-use Rattle.distances.proofs.Turns.{turn_inside, turn_room, turn_level, turn_places, turn_more, turn_less, turn_end}
+use Rattle.distances.proofs.Turns.{turn_room, turn_level, turn_places, turn_more, turn_less, turn_end}
 use Rattle.distances.proofs.dijkstra.distances.Goals as goal
 
 pub loop-u-init : goal.loop-u-init

@@ -1,4 +1,4 @@
-use Rattle.std.proofs.Common.{◌≡◌, ℕ, ◌-◌}
+use Rattle.std.proofs.Common.{◌≡◌, ◌-◌}
 use Rattle.ways.specs.Ways.{count_below}
 use Rattle.maps.specs.Charts.{chart}
 use Rattle.distances.proofs.Searching.{Searching, settled}

@@ -1,4 +1,4 @@
-use Rattle.std.proofs.Common.{◌≡◌, ℕ, ◌+◌, get_or, refl, ◌∙◌, subst, arith}
+use Rattle.std.proofs.Common.{◌+◌, get_or, refl, ◌∙◌, subst, arith}
 use Rattle.distances.specs.Keys.{Moved, key_of}
 use Rattle.distances.proofs.Following.{followed_keeps, followed_nears}
 use Rattle.distances.proofs.dijkstra.follow.Goals as goal

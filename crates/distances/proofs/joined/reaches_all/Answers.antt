@@ -1,4 +1,4 @@
-use Rattle.std.proofs.Common.{ℕ, ◌<◌, arith}
+use Rattle.std.proofs.Common.{arith}
 use Rattle.distances.proofs.Numbers.{apart_at, together}
 use Rattle.distances.proofs.joined.reaches_all.Goals as goal
 

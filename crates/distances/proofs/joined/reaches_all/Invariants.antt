@@ -1,4 +1,4 @@
-use Rattle.std.proofs.Common.{◌≡◌, ℕ, ◌<◌, get_or}
+use Rattle.std.proofs.Common.{ℕ, ◌<◌, get_or}
 use Rattle.distances.proofs.Searching.{none}
 use Rattle.distances.proofs.joined.reaches_all.Given as goal
 

@@ -1,4 +1,4 @@
-use Rattle.std.proofs.Common.{◌≡◌, ◌+◌, ◌-◌, ◌*◌, ◌<◌, ◌≤◌, length, refl, ◌∙◌, arith, rules}
+use Rattle.std.proofs.Common.{◌≡◌, ◌+◌, ◌-◌, ◌*◌, length, refl, ◌∙◌, arith, rules}
 use Rattle.std.proofs.lemmas.List.Edits.{length-between}
 use Rattle.maps.specs.Charts.{chart}
 use Rattle.distances.proofs.RowsOf.{row_fits, mid_long, before_more}

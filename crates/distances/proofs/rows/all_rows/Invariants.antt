@@ -1,4 +1,4 @@
-use Rattle.std.proofs.Common.{◌≡◌, ℕ, ◌*◌, length}
+use Rattle.std.proofs.Common.{◌≡◌, ◌*◌, length}
 use Rattle.maps.specs.Charts.{chart}
 use Rattle.distances.proofs.RowsOf.{RowsBefore}
 use Rattle.distances.proofs.rows.all_rows.Given as goal

@@ -1,11 +1,11 @@
-use Rattle.std.proofs.Common.{◌≡◌, ℕ, ◌<◌, Bool, cond, ◌&&◌, ltb, None, Option, sym, ap, ◌∙◌, arith}
+use Rattle.std.proofs.Common.{◌≡◌, ℕ, ◌<◌, Bool, cond, None, Option, sym, ap, ◌∙◌, arith}
 use Rattle.std.proofs.lemmas.Bool.{lt-ltb}
 use Rattle.distances.proofs.Surveyed.{chosen_in, ground_fits}
 use Rattle.distances.specs.Rows.{far_number}
 use Rattle.landmarks.proofs.Closest.{nearest_none}
 use Rattle.landmarks.proofs.Numbered.{turn_marked, turn_unmarked}
 use Rattle.landmarks.proofs.nearest.landmark_of.Goals as goal
-use Rattle.landmarks.proofs.nearest.landmark_of.Goals.{else-is-marked, then-is-marked}
+use Rattle.landmarks.proofs.nearest.landmark_of.Goals.{else-is_marked, then-is_marked}
 use Rattle.landmarks.specs.Landmarks.{mark_of, marks_in, nearest}
 use Rattle.landmarks.specs.Numbers.{mark_numbers, or_nearer}
 use Rattle.landmarks.specs.declared.kinds.Nearest.{Nearest}
@@ -27,13 +27,13 @@ loop-k-preserved c =
     let vn : v < b.n = omega (arith, n, c.if-v-n.false) in
     let kn : k < b.n = omega (arith, n, c.loop-k-test.true) in
     let fits : (a e : ℕ) → a < b.n → far z v a ≡ At e → e < 4294967295 = λ a e an h. ground_fits b v a e vn an h in
-    elim c.if-is-marked.branch [
-      | then-is-marked w ↦
+    elim c.if-is_marked.branch [
+      | then-is_marked w ↦
           w.best-is ∙ w.nearer-best.ensures ∙ ap (λ (x : ℕ). or_nearer c.loop-k.best k x) (w.far.ensures ∙ sym (chosen_in b.n v k (far_number (far z v k)) 4294967295 vn kn))
           ∙ ap (λ (x : Option Nearest). or_nearer x k (far_number (far z v k))) c.loop-k.invariant
-          ∙ sym (turn_marked z l v k vn kn fits (sym c.is-marked.ensures ∙ w.if-is-marked.true))
-      | else-is-marked w ↦
-          w.best-is ∙ c.loop-k.invariant ∙ sym (turn_unmarked z l v k vn kn fits (sym c.is-marked.ensures ∙ w.if-is-marked.false))
+          ∙ sym (turn_marked z l v k vn kn fits (sym c.is_marked.ensures ∙ w.if-is_marked.true))
+      | else-is_marked w ↦
+          w.best-is ∙ c.loop-k.invariant ∙ sym (turn_unmarked z l v k vn kn fits (sym c.is_marked.ensures ∙ w.if-is_marked.false))
     ]
 
 pub returns : goal.returns

@@ -1,4 +1,4 @@
-use Rattle.std.proofs.Common.{◌≡◌, ℕ, length, vec_items, refl, ◌∙◌, rules}
+use Rattle.std.proofs.Common.{◌≡◌, length, vec_items, refl, ◌∙◌, rules}
 use Rattle.std.proofs.lemmas.List.{take_at}
 use Rattle.maps.specs.Charts.{chart, ground}
 use Rattle.maps.proofs.Views.{view_is}
@@ -11,13 +11,10 @@ invariant_of-result c =
     let e = view_is c.map.result b.n (vec_items b.roads) c.map.ensures.n c.map.ensures.same in
     let w = c.in_ok-all_rows.ensures in
     let dl : length c.all_rows.new.dist ≡ c.in_ok-dist.dist.len = c.all_rows.auto.dist ∙ c.deref_mut.ensures.len in
-    let nl : length c.all_rows.new.next ≡ c.in_ok-next.next.len = c.all_rows.auto.next ∙ c.deref_mut-2.ensures.len in (
-      search rules,
-      (
-        search rules,
-        (
-          fars_of (chart c.map.result) (ground b) b.n c.all_rows.new.dist _ (take_at c.all_rows.new.dist _ c.in_ok-dist.dist.len dl) e refl w.2,
-          (hops_of (chart c.map.result) (ground b) b.n c.all_rows.new.next _ (take_at c.all_rows.new.next _ c.in_ok-next.next.len nl) e refl w.3, tt),
-        ),
-      ),
-    )
+    let nl : length c.all_rows.new.next ≡ c.in_ok-next.next.len = c.all_rows.auto.next ∙ c.deref_mut-2.ensures.len in
+    record {
+      dists = search rules;
+      nexts = search rules;
+      fars = fars_of (chart c.map.result) (ground b) b.n c.all_rows.new.dist _ (take_at c.all_rows.new.dist _ c.in_ok-dist.dist.len dl) e refl w.2;
+      hops = hops_of (chart c.map.result) (ground b) b.n c.all_rows.new.next _ (take_at c.all_rows.new.next _ c.in_ok-next.next.len nl) e refl w.3;
+    }

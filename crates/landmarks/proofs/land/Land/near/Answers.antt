@@ -1,4 +1,4 @@
-use Rattle.std.proofs.Common.{◌≡◌, ℕ, ◌<◌, Bool, false, cond, ltb, sym, ap, ◌∙◌, arith}
+use Rattle.std.proofs.Common.{ℕ, ◌<◌, Bool, false, cond, ltb, sym, ap, ◌∙◌, arith}
 use Rattle.std.proofs.lemmas.Bool.{and_from, lt-ltb, ltb-true}
 use Rattle.distances.proofs.Surveyed.{chosen_in, ground_fits}
 use Rattle.distances.specs.Rows.{far_number}
@@ -21,7 +21,7 @@ returns-then-u-len c =
     let f = found_at (ltb v z.n) c.in-Some.found (mark_number (mark_of z l v)) c.in-Some.ensures in
     let vn : v < z.n = ltb-true v z.n f.0 in
     let un : u < z.n = omega (arith, c.if-u-len.true, c.len.ensures ∙ ap (λ (x : RoadMapBuf). x.n) c.map.ensures) in
-    c.closer-than.ensures
+    c.closer_than.ensures
     ∙ ap (λ (x : ℕ). ltb x c.in-Some.found.away) (c.far.ensures ∙ sym (chosen_in z.n v u (far_number (far z v u)) 4294967295 vn un))
     ∙ ap (λ (x : Nearest). ltb (far_number (far z v u)) x.away) f.1
     ∙ near_number z l u v un vn (λ a e an h. ground_fits s.survey.map v a e vn an h)
