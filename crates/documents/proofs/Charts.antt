@@ -1,6 +1,6 @@
 -- The first record and the roads of a map, read and written, fit together. Assumes nothing.
 use Rattle.std.proofs.Common.{◌≡◌, ℕ, ◌<◌, ◌≤◌, Bool, true, false, cond, not, eqb, List, [], ◌∷◌, length, get_or, Some, None, sym, refl, ap, ◌∙◌, subst, arith}
-use Rattle.std.proofs.lemmas.Bool.{or_parts, or_from, not-false, not_from_true, le-ltb, ltb-false, ne_eqb, eqb-true}
+use Rattle.std.proofs.lemmas.Bool.{or_parts, or_from, not-false, le-ltb, ltb-false, ne_eqb, eqb-true}
 use Rattle.std.specs.List.{flat_map}
 use Rattle.maps.specs.declared.kinds.Fault.TheVariants.{Form, Range}
 use Rattle.maps.specs.Roads.{Each, SoundRoad, SoundRoads}

@@ -9,7 +9,7 @@
 --   read_last_map    a map with which the input has to end: bytes left over are told at its end too, and first
 --   read_whole_map   a map that is the whole input
 --   write_map       the bytes of a map
-use Rattle.std.specs.Prelude.{ℕ, cond, not, List, [], ◌∷◌, ◌++◌, length, Some, None, Option, slice_index}
+use Rattle.std.specs.Prelude.{ℕ, cond, not, List, ◌∷◌, ◌++◌, length, Some, None, Option, slice_index}
 use Rattle.std.specs.List.{flat_map}
 use Rattle.ways.specs.Ways.{hangs_together}
 use Rattle.maps.specs.Roads.{size_fault, or_else, map_of}

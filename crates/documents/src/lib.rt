@@ -1,4 +1,6 @@
 // Documents: maps, read from bytes and written to them.
+#![tactic(auto)]
+
 pub mod heads;
 pub mod kinds;
 pub mod laws;

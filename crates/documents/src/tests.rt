@@ -21,7 +21,7 @@ fn a_map_comes_back(rt: HostRuntime) -> Result<(), Fail> {
     assert_eq!(rt; map.roads().len(), 2);
     let mut out = Vec::new(rt.alloc());
     write_map(&mut out, &map)?;
-    assert_eq!(rt; out.as_slice(), &bytes);
+    assert_eq!(rt; out.as_slice(), bytes.as_slice());
     Ok(())
 }
 

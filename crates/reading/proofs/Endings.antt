@@ -1,10 +1,10 @@
 -- What the code answers at the end of a document, from what it was told before. Assumes nothing.
-use Rattle.std.proofs.Common.{◌≡◌, ℕ, true, is_ok, Some, None, Ok, Err, Option, Result, sym, refl, ap, ◌∙◌, subst, arith}
+use Rattle.std.proofs.Common.{◌≡◌, ℕ, is_ok, Some, None, Ok, Err, Option, Result, sym, refl, ap, ◌∙◌, subst, arith}
 use Rattle.maps.specs.declared.kinds.Fault.{Fault}
 use Rattle.reading.specs.declared.kinds.Place.{Place}
 use Rattle.reading.specs.declared.kinds.Refusal.{Refusal}
 use Rattle.reading.specs.declared.kinds.Stop.{Stop}
-use Rattle.reading.specs.declared.kinds.Stop.TheVariants.{Input, Memory}
+use Rattle.reading.specs.declared.kinds.Stop.TheVariants.{Input}
 use Rattle.reading.specs.Reading.{Read, Got, Bad, then, both, closed, fresh}
 use Rattle.reading.specs.Telling.{answer, stands, Tells, Told}
 use Rattle.reading.proofs.Steps.{told_bad}

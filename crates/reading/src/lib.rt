@@ -1,4 +1,6 @@
 // Reading an input record by record, up to its end or its first fault, and writing records.
+#![tactic(auto)]
+
 pub mod kinds;
 pub mod reader;
 pub mod records;

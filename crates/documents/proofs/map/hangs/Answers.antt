@@ -14,5 +14,5 @@ same_map z n roads e h =
 
 pub returns : goal.returns
 returns c =
-    c.hangs-together.ensures
+    c.hangs_together.ensures
     ∙ ap hangs_together (same_map (chart c.map-lent.result) c.args.map.now.n (vec_items c.args.map.now.roads) c.map-lent.ensures.n c.map-lent.ensures.same)

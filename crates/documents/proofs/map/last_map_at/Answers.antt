@@ -6,29 +6,29 @@ use Rattle.documents.specs.Maps.{read_roads, last_fault}
 use Rattle.documents.specs.Views.{charted}
 use Rattle.documents.proofs.map.last_map_at.Goals as goal
 
-pub returns-in-err-close : goal.returns-in-err-close
-returns-in-err-close c =
-    let p = err_from_is_err_and c.from-residual-in-err-close.result c.from-residual-in-err-close.ensures.1 in
+pub returns-in_err-close : goal.returns-in_err-close
+returns-in_err-close c =
+    let p = err_from_is_err_and c.from_residual-in_err-close.result c.from_residual-in_err-close.ensures.1 in
     let m = c.in_ok-map.map in
-    let at = c.roads-at.new.from.at in
+    let at = c.roads_at.new.from.at in
     record {
       told = end_bad charted charted (read_roads c.args.from.now.bytes.now c.args.from.now.at) (last_fault c.args.from.now.bytes.now) at c.close.new.self.at
-          c.roads-at.result m m c.fault-of-last-fault.result c.close.result
-          c.roads-at.ensures.told c.in_ok-map.was refl
-          (c.fault-of-last-fault.ensures ∙ ap (λ (b : List ℕ). last_fault b (charted m) at) c.roads-at.ensures.same) c.close.ensures.value
-          c.in-err-close.was p.1 p.2;
+          c.roads_at.result m m c.fault_of_last-fault.result c.close.result
+          c.roads_at.ensures.told c.in_ok-map.was refl
+          (c.fault_of_last-fault.ensures ∙ ap (λ (b : List ℕ). last_fault b (charted m) at) c.roads_at.ensures.same) c.close.ensures.value
+          c.in_err-close.was p.1 p.2;
       same = search rules;
     }
 
 pub returns : goal.returns
 returns c =
     let m = c.in_ok-map.map in
-    let at = c.roads-at.new.from.at in
+    let at = c.roads_at.new.from.at in
     record {
       told = end_ok charted charted (read_roads c.args.from.now.bytes.now c.args.from.now.at) (last_fault c.args.from.now.bytes.now) at c.close.new.self.at
-          c.roads-at.result m m c.fault-of-last-fault.result c.close.result
-          c.roads-at.ensures.told c.in_ok-map.was refl
-          (c.fault-of-last-fault.ensures ∙ ap (λ (b : List ℕ). last_fault b (charted m) at) c.roads-at.ensures.same) c.close.ensures.value
+          c.roads_at.result m m c.fault_of_last-fault.result c.close.result
+          c.roads_at.ensures.told c.in_ok-map.was refl
+          (c.fault_of_last-fault.ensures ∙ ap (λ (b : List ℕ). last_fault b (charted m) at) c.roads_at.ensures.same) c.close.ensures.value
           c.in_ok-close.field-0 c.in_ok-close.was c.close.ensures.at;
       same = search rules;
     }

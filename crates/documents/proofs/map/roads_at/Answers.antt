@@ -16,24 +16,24 @@ built-requires c =
     let b = c.args.from.now.bytes.now in
     let at = c.args.from.now.at in
     sound_map h.places roads
-    (chart_sound b at c.read-records.new.from.at (record { places = h.places; roads = roads })
-    (roads_got vec_items b c.begin.new.self.bytes.now at c.read-record.new.from.at c.begin.new.self.at c.read-records.new.from.at h c.in_ok-roads.roads
-    c.read-record.result c.read-records.result
-    c.in_ok-head.was c.read-record.ensures.value c.read-record.ensures.at (c.begin.ensures.same ∙ c.read-record.ensures.same) c.begin.ensures.at
-    c.in_ok-roads.was c.read-records.ensures.told))
+    (chart_sound b at c.read_records.new.from.at (record { places = h.places; roads = roads })
+    (roads_got vec_items b c.begin.new.self.bytes.now at c.read_record.new.from.at c.begin.new.self.at c.read_records.new.from.at h c.in_ok-roads.roads
+    c.read_record.result c.read_records.result
+    c.in_ok-head.was c.read_record.ensures.value c.read_record.ensures.at (c.begin.ensures.same ∙ c.read_record.ensures.same) c.begin.ensures.at
+    c.in_ok-roads.was c.read_records.ensures.told))
 
 pub returns : goal.returns
 returns c =
     let h = c.in_ok-head.head in
     let b = c.args.from.now.bytes.now in
     let at = c.args.from.now.at in
-    let q = c.read-records.new.from.at in
+    let q = c.read_records.new.from.at in
     record {
       told = told_ok charted (read_roads b at) c.in_ok-map.map q
-          (roads_got vec_items b c.begin.new.self.bytes.now at c.read-record.new.from.at c.begin.new.self.at q h c.in_ok-roads.roads
-          c.read-record.result c.read-records.result
-          c.in_ok-head.was c.read-record.ensures.value c.read-record.ensures.at (c.begin.ensures.same ∙ c.read-record.ensures.same) c.begin.ensures.at
-          c.in_ok-roads.was c.read-records.ensures.told
+          (roads_got vec_items b c.begin.new.self.bytes.now at c.read_record.new.from.at c.begin.new.self.at q h c.in_ok-roads.roads
+          c.read_record.result c.read_records.result
+          c.in_ok-head.was c.read_record.ensures.value c.read_record.ensures.at (c.begin.ensures.same ∙ c.read_record.ensures.same) c.begin.ensures.at
+          c.in_ok-roads.was c.read_records.ensures.told
           ∙ ap (λ (z : Charted). Got z q) (sym c.in_ok-map.ensures));
       same = search rules;
     }

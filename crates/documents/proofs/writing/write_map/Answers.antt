@@ -10,7 +10,7 @@ use Rattle.documents.proofs.writing.write_map.Goals as goal
 
 pub returns-in-Err : goal.returns-in-Err
 returns-in-Err c =
-    undone (vec_items c.args.out.now) (head_bytes (record { kind = 1; places = c.len.result; roads = length c.roads-roads.result.now })) (vec_items c.put-all.new.out) _ c.len-old.result
+    undone (vec_items c.args.out.now) (head_bytes (record { kind = 1; places = c.len.result; roads = length c.roads-roads.result.now })) (vec_items c.put_all.new.out) _ c.len-old.result
     (c.len-old.ensures ∙ c.args.out.now.ok.0) (c.in-Err.ensures ∙ c.in_ok-put.ensures) c.truncate.ensures.items
 
 pub returns : goal.returns
@@ -19,7 +19,7 @@ returns c =
     let old = vec_items c.args.out.now in
     let roads = vec_items m.roads in
     let first : vec_items c.put.new.out ≡ old ++ head_bytes (record { kind = 1; places = c.len.result; roads = length c.roads-roads.result.now }) = c.in_ok-put.ensures in
-    let others : vec_items c.put-all.new.out ≡ vec_items c.put.new.out ++ flat_map road_bytes c.roads-roads.result.now = c.in_default.ensures in
+    let others : vec_items c.put_all.new.out ≡ vec_items c.put.new.out ++ flat_map road_bytes c.roads-roads.result.now = c.in_default.ensures in
     wrote old (head_bytes (head_in (charted m))) (flat_map road_bytes roads)
     (first
     ∙ ap (λ (k : ℕ). old ++ head_bytes (record { kind = 1; places = k; roads = length c.roads-roads.result.now })) c.len.ensures

@@ -7,5 +7,5 @@ use Rattle.reading.proofs.records.read_records.Given as goal
 abbrev pub invariant-loop-i : goal.invariant-loop-i
 invariant-loop-i g l =
     (l.from.bytes.now ≡ l.initial.from.bytes.now)
-    × (onto (vec_items l.items) (many (one g.T.Recorded.shape l.n l.initial.from.bytes.now) (l.count - l.-i) l.last l.from.at)
+    × (onto (vec_items l.items) (many (one g.T.Recorded.shape l.n l.initial.from.bytes.now) (l.count - l._i) l.last l.from.at)
     ≡ many (one g.T.Recorded.shape l.n l.initial.from.bytes.now) l.count None l.initial.from.at)
