@@ -1,7 +1,10 @@
 // The program `change`: reads a map, and says what it read and what follows it.
-use programs::leading::show_leading_map;
-use programs::messages::Ended;
+#![tactic(auto)]
 
-fn main(rt: HostRuntime) -> Result<(), Ended> {
-    show_leading_map(&rt, "change")
+use programs::leading::show_leading_map;
+use programs::messages::status_of;
+use std::process::ExitCode;
+
+fn main(rt: HostRuntime) -> ExitCode {
+    status_of(show_leading_map(&rt, "change"))
 }

@@ -1,4 +1,6 @@
 // What the programs share: reading their input, and saying why they refuse it.
+#![tactic(auto)]
+
 pub mod input;
 pub mod leading;
 pub mod messages;

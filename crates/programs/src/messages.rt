@@ -1,13 +1,25 @@
 // What a program says of a fault, of a record, and of an input that it refuses.
-ghost use Rattle.std.specs.Prelude.{◌≡◌};
+ghost use Rattle.std.specs.Prelude.{◌≡◌, cond, is_ok};
+ghost use Rattle.std.specs.Process.{exit_status};
 ghost use Rattle.programs.specs.Words.{record_name};
 
 use maps::kinds::Fault;
 use reading::kinds::{Record, Refusal, Stop};
+use std::process::ExitCode;
 
 /// A program ends without having done its work, and has said why.
 #[derive(Clone, Copy)]
 pub struct Ended;
+
+/// The status of a program that ends so: 0 if it has done its work, and 1 if not.
+pub fn status_of(done: Result<(), Ended>) -> ExitCode
+    ensures { exit_status result ≡ cond (is_ok done) 0 1 }
+{
+    match done {
+        Ok(()) => ExitCode::SUCCESS,
+        Err(Ended) => ExitCode::FAILURE,
+    }
+}
 
 /// A fault in words.
 pub fn words_of(fault: Fault) -> &'static str {

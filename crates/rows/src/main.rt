@@ -1,11 +1,14 @@
 // The program `rows`: prints all distances and next places of a map, or works them out some times and prints their sum.
+#![tactic(auto)]
+
 use distances::rows::{all_rows, row};
 use documents::map::read_map;
 use maps::buf::RoadMapBuf;
 use maps::map::RoadMap;
 use programs::input::{input, words};
-use programs::messages::{Ended, complain, refuse};
+use programs::messages::{Ended, complain, refuse, status_of};
 use std::fmt::Write;
+use std::process::ExitCode;
 use std::string::String;
 
 // Prints the row of place `d`: the distance from each place, and the next place from it.
@@ -95,13 +98,18 @@ fn repeat(rt: &HostRuntime, given: &[String]) -> Result<(), Ended> {
     repeat_rows(rt, &map.map(), times)
 }
 
-fn main(rt: HostRuntime) -> Result<(), Ended> {
-    let given = words(&rt, "rows")?;
+// Prints all rows; or after `--repeat`, works them out some times.
+fn show_or_repeat(rt: &HostRuntime) -> Result<(), Ended> {
+    let given = words(rt, "rows")?;
     if let [first, rest @ ..] = given.as_slice() {
         if first.as_str() == "--repeat" {
-            return repeat(&rt, rest);
+            return repeat(rt, rest);
         }
     }
-    let map = map_of(&rt, &given)?;
-    show_rows(&rt, &map.map())
+    let map = map_of(rt, &given)?;
+    show_rows(rt, &map.map())
+}
+
+fn main(rt: HostRuntime) -> ExitCode {
+    status_of(show_or_repeat(&rt))
 }
