@@ -1,14 +1,14 @@
 -- A map document: what reading one gives, for every input, and how one is written. Assumes nothing.
 --
 -- Glossary
---   Charted        a map as it is written: how many places there are, and the roads
---   head_of         the first record, 5 bytes: the kind, how many places there are, how many roads
---   read_roads      the first record and the roads
---   apart          what is wrong with a map that doesn't hang together
---   read_map        a map that something else may follow: at its end it is told if it is apart
+--   Charted          a map as it is written: how many places there are, and the roads
+--   head_of          the first record, 5 bytes: the kind, how many places there are, how many roads
+--   read_roads       the first record and the roads
+--   apart            what is wrong with a map that doesn't hang together
+--   read_map         a map that something else may follow: at its end it is told if it is apart
 --   read_last_map    a map with which the input has to end: bytes left over are told at its end too, and first
 --   read_whole_map   a map that is the whole input
---   write_map       the bytes of a map
+--   write_map        the bytes of a map
 use Rattle.std.specs.Prelude.{ℕ, cond, not, List, ◌∷◌, ◌++◌, length, Some, None, Option, slice_index}
 use Rattle.std.specs.List.{flat_map}
 use Rattle.ways.specs.Ways.{hangs_together}

@@ -1,12 +1,12 @@
 -- Landmarks, the landmark of a place, what is near, and how many lines a post has. Assumes nothing.
 --
 -- Glossary
---   Marks     which places are landmarks
---   nearest   the landmark closest to v among the places 0 to k - 1, with its distance: the lowest among equals
---   mark_of    the landmark of v: the one at the least distance, the lowest among equals
---   near      v is near u: u is closer to v than v's landmark is ("closer", not "as close")
---   on_post    v has a line on the post at u: v is a landmark or near u, and is not u
---   line_count how many lines the post at u has
+--   Marks        which places are landmarks
+--   nearest      the landmark closest to v among the places 0 to k - 1, with its distance: the lowest among equals
+--   mark_of      the landmark of v: the one at the least distance, the lowest among equals
+--   near         v is near u: u is closer to v than v's landmark is ("closer", not "as close")
+--   on_post      v has a line on the post at u: v is a landmark or near u, and is not u
+--   line_count   how many lines the post at u has
 use Rattle.std.specs.Prelude.{◌≡◌, ℕ, zero, suc, ◌<◌, Bool, true, false, cond, not, ◌&&◌, ◌||◌, List, ◌==◌, nat_lt, slice_index_or}
 use Rattle.ways.specs.Map.{Map, Far, Never, At, far}
 use Rattle.ways.specs.Ways.{BothWays, Joined, count_below}

@@ -1,13 +1,13 @@
 -- The map in memory: its arcs in arrays, the test that makes every access safe, and the abstract map that the arrays stand for. Assumes nothing.
 --
 -- Glossary
---   arc        one direction of a road: from the place at which it stands to another, with the road's cost
---   starts     the arcs of place a stand from starts[a] to before starts[a + 1]
---   places     the place to which each arc leads; rising among the arcs of one place
---   costs      what each arc costs
---   lookup     the cost of the first arc among m arcs from k on that leads to e, 0 where none does
---   map_in      the abstract map of such arrays
---   sound_arcs  the arrays are those of a map
+--   arc          one direction of a road: from the place at which it stands to another, with the road's cost
+--   starts       the arcs of place a stand from starts[a] to before starts[a + 1]
+--   places       the place to which each arc leads; rising among the arcs of one place
+--   costs        what each arc costs
+--   lookup       the cost of the first arc among m arcs from k on that leads to e, 0 where none does
+--   map_in       the abstract map of such arrays
+--   sound_arcs   the arrays are those of a map
 use Rattle.std.specs.Prelude.{◌≡◌, ℕ, zero, suc, ◌+◌, ◌-◌, ◌<◌, ◌≤◌, Bool, cond, not, ◌&&◌, ◌||◌, leb, List, [], length, take, drop, ◌==◌, ◌≢◌, nat_eq, nat_le, nat_lt, slice_index, slice_index_or}
 use Rattle.ways.specs.Map.{Map}
 use Rattle.ways.specs.Ways.{all_below}

@@ -1,11 +1,11 @@
 -- A map as a list of roads: what is wrong with one, and the abstract map that it stands for. Assumes nothing.
 --
 -- Glossary
---   rises        a road comes after the one before it: by its first place, then by its second
+--   rises         a road comes after the one before it: by its first place, then by its second
 --   road_fault    what is wrong with a road of a map of n places after another, the lowest number first
 --   roads_fault   the first fault of a list of roads
 --   map_fault     what is wrong with a number of places and a list of roads
---   faultless    nothing is
+--   faultless     nothing is
 --   cost_in       the cost of the road between two places, 0 where there is none
 --   map_of        the abstract map of n places and these roads
 use Rattle.std.specs.Prelude.{◌≡◌, ℕ, ◌<◌, ◌≤◌, Bool, true, false, cond, not, ◌&&◌, ◌||◌, List, [], ◌∷◌, length, Some, None, Option, ◌==◌, nat_le, nat_lt}

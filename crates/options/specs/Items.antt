@@ -3,10 +3,10 @@
 -- Glossary
 --   Meaning    what some words stand for: a file, an option without a word, one with its word, one that wants a word where there is none
 --   Awaiting   what the next word is: Any that says itself what it is, Of an option, or a File
---   is_file     a word that may be an option is none
---   item_at     what a word stands for; nothing is `--`, nor an option before its word
+--   is_file    a word that may be an option is none
+--   item_at    what a word stands for; nothing is `--`, nor an option before its word
 --   after      what the word behind it is
---   items_in    what all words stand for
+--   items_in   what all words stand for
 use Rattle.std.specs.Prelude.{ℕ, Bool, true, false, cond, not, ◌||◌, List, [], ◌∷◌, ◌++◌, Some, None, codes, Option, ◌==◌, slice_index}
 use Rattle.std.specs.Option.{option_to_list}
 use Rattle.std.specs.Str.{bytes_eq}

@@ -4,7 +4,7 @@
 --   line_of    the line for v on the post at u
 --   lines_of   the lines on the post at u for the places v, v + 1, .., v + k - 1, in that order
 --   post_of    all lines of the post at u, in rising order of places
---   told      the lines that a post in memory holds
+--   told       the lines that a post in memory holds
 --   find_in    the line for a place among some lines
 --   place_at   the place that the line at an index names
 use Rattle.std.specs.Prelude.{ℕ, zero, suc, ◌+◌, false, cond, List, [], ◌∷◌, take, Some, None, Option, ◌==◌, slice_index_or}

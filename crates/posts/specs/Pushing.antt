@@ -1,9 +1,9 @@
 -- What one line more does to a post, and when it is refused. Assumes nothing.
 --
 -- Glossary
---   Above     a line names a higher place than all lines that are there
---   NotAbove  some line that is there names the same place or a higher one
---   Pushed    p are the lines before, q those after, r what was answered
+--   Above      a line names a higher place than all lines that are there
+--   NotAbove   some line that is there names the same place or a higher one
+--   Pushed     p are the lines before, q those after, r what was answered
 use Rattle.std.specs.Prelude.{◌≡◌, ℕ, ◌<◌, ◌≤◌, List, [], ◌∷◌, ◌++◌, length, Ok, Err, Result}
 use Rattle.posts.specs.declared.kinds.Line.{Line}
 use Rattle.posts.specs.declared.kinds.Refused.{Refused}

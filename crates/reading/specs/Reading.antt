@@ -1,13 +1,13 @@
 -- What it is to read an input record by record, up to its end or its first fault. Assumes nothing.
 --
 -- Glossary
---   Read      what reading gives: a value and the place after it, or the first record that is refused
---   Shape     a sort of record
---   one       one record: it is cut, or at fault, or has its value
---   many      some records of one sort, each read with the one before it in sight
---   both      one thing and then another, of another sort
---   closed    the end of a document, a record of no bytes: what is wrong with the whole is told there
---   word      the number in two bytes, high byte first; bytes_of writes it
+--   Read     what reading gives: a value and the place after it, or the first record that is refused
+--   Shape    a sort of record
+--   one      one record: it is cut, or at fault, or has its value
+--   many     some records of one sort, each read with the one before it in sight
+--   both     one thing and then another, of another sort
+--   closed   the end of a document, a record of no bytes: what is wrong with the whole is told there
+--   word     the number in two bytes, high byte first; bytes_of writes it
 use Rattle.std.specs.Prelude.{◌≡◌, ℕ, zero, suc, ◌+◌, ◌*◌, ◌/◌, ◌%◌, ◌<◌, cond, List, [], ◌∷◌, length, take, drop, Some, None, Option, ◌==◌, nat_lt, slice_index}
 use Rattle.maps.specs.declared.kinds.Fault.{Fault}
 use Rattle.maps.specs.declared.kinds.Fault.TheVariants.{Form}

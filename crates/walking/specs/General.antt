@@ -4,7 +4,7 @@
 --   Rule      where one goes on, place by place
 --   saying    the rule of posts and a card: what they say
 --   journey   how a walk to v by a rule ends that may go so many roads more, from u, after roads of some cost
---   rule_of    the rule of a set of places and a landmark: from the places of the set towards v, and from the landmark too; from elsewhere
+--   rule_of   the rule of a set of places and a landmark: from the places of the set towards v, and from the landmark too; from elsewhere
 --             towards the landmark
 --   Follow    a rule leads from u to v by so many roads that cost so much
 --   Leads     a rule leads from u to a place on the way by so many roads

@@ -3,8 +3,8 @@
 -- Glossary
 --   Posts     the lines that stand at each place, right or wrong
 --   goes      where one goes on at u, by the lines there and the card alone
---   step_of    the step of a walker at u: he has arrived, or goes on
---   turn_by    what comes of a step at u on a map, after roads of some cost
+--   step_of   the step of a walker at u: he has arrived, or goes on
+--   turn_by   what comes of a step at u on a map, after roads of some cost
 --   travels   how a walk ends that may go so many roads more, from u, after roads of some cost
 --   trail     the places to which one comes on such a walk after u, in their order
 use Rattle.std.specs.Prelude.{ℕ, zero, suc, ◌+◌, ◌*◌, cond, List, [], ◌∷◌, map, Some, None, Option, ◌==◌, nat_lt, slice_index_or}

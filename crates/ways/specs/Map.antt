@@ -1,12 +1,12 @@
 -- The abstract map, the distance of two places, and the next place on a cheapest way. Assumes nothing.
 --
 -- Glossary
---   Map       places 0 to n - 1, and what the road from one place to another costs; 0 where there is none
---   Far       a distance: At c, or Never where there is no way
---   within k  the least cost of a way of at most k roads
---   far       the distance from a to d: the least cost of a way of at most n roads, which is the least of all
---   Hop       the next place of a way: To e, or Nowhere
---   hop       the next place from a towards d: the lowest neighbour on a way of least cost
+--   Map        places 0 to n - 1, and what the road from one place to another costs; 0 where there is none
+--   Far        a distance: At c, or Never where there is no way
+--   within k   the least cost of a way of at most k roads
+--   far        the distance from a to d: the least cost of a way of at most n roads, which is the least of all
+--   Hop        the next place of a way: To e, or Nowhere
+--   hop        the next place from a towards d: the lowest neighbour on a way of least cost
 use Rattle.std.specs.Prelude.{ℕ, zero, suc, ◌+◌, Bool, true, false, cond, ◌&&◌, ◌==◌, nat_lt}
 
 pub record Map : Type 0 where
