@@ -1,4 +1,4 @@
-use Rattle.std.proofs.Common.{◌≡◌, ℕ, ◌<◌, get_or}
+use Rattle.std.proofs.Common.{ℕ, ◌<◌, get_or}
 use Rattle.distances.proofs.Searching.{none}
 use Rattle.distances.proofs.unreached.first_apart.Given as goal
 

@@ -1,8 +1,8 @@
 -- An order and where each place stands in it: the facts that a survey keeps, from an order and back. Assumes nothing.
-use Rattle.std.proofs.Common.{◌≡◌, ℕ, zero, suc, ◌+◌, ◌*◌, ◌<◌, ◌≤◌, cond, eqb, List, get_or, vec_items, sym, refl, ap, ◌∙◌, subst, inl, inr, arith}
+use Rattle.std.proofs.Common.{◌≡◌, ℕ, zero, suc, ◌+◌, ◌*◌, ◌<◌, ◌≤◌, cond, List, get_or, vec_items, sym, ap, ◌∙◌, subst, inl, inr, arith}
 use Rattle.std.proofs.lemmas.Bool.{cases_eq, eq-eqb, ne_eqb}
 use Rattle.distances.specs.declared.survey.Survey.{Survey}
-use Rattle.distances.specs.Orders.{Sorted, Reached, OrderRows, in_order, rank, rank_in, Whole}
+use Rattle.distances.specs.Orders.{Sorted, OrderRows, in_order, rank, rank_in, Whole}
 
 -- a place that stands at j and nowhere else
 rank_is : (seq : ℕ → ℕ) (k j u : ℕ) → j < k → seq j ≡ u → ((i : ℕ) → i < k → seq i ≡ u → i ≡ j) → rank seq k u ≡ j
