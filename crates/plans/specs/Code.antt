@@ -6,7 +6,7 @@
 --   go         where one goes on at u with a card, by what is near and which places are landmarks
 --   Code       the laws of any planning and walking
 --   Signposts  that these definitions keep them
-use Rattle.std.specs.Prelude.{◌≡◌, ℕ, ◌<◌, false, cond, List, [], length, ◌==◌, slice_index_or}
+use Rattle.std.specs.Prelude.{◌≡◌, ℕ, ◌<◌, cond, List, [], length, ◌==◌, slice_index_or}
 use Rattle.cards.specs.Cards.{card_of}
 use Rattle.cards.specs.declared.kinds.Card.{Card}
 use Rattle.cards.specs.declared.kinds.Hint.TheVariants.{Next}

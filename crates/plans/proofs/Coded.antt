@@ -1,24 +1,22 @@
 -- What the posts and cards of a plan say: the laws of planning and walking. Assumes nothing.
-use Rattle.std.proofs.Common.{◌≡◌, ℕ, ◌+◌, ◌<◌, ◌≤◌, Bool, true, false, cond, eqb, ltb, List, [], map, length, get_or, sym, refl, ap, ◌∙◌, subst, inl, inr, arith}
+use Rattle.std.proofs.Common.{◌≡◌, ℕ, ◌<◌, true, false, cond, eqb, ltb, List, [], length, sym, refl, ap, ◌∙◌, inl, inr, arith}
 use Rattle.std.proofs.lemmas.List.FromFn.{get_or-map-range_with_len}
 use Rattle.std.proofs.lemmas.Bool.{cases_Bool, cases_eq, cases_lt, both_ways, eq-eqb, ne_eqb, lt-ltb, cond-true, cond-false}
-use Rattle.std.specs.List.{range_with_len}
 use Rattle.cards.specs.Cards.{hint_of, card_of}
-use Rattle.cards.specs.declared.kinds.Card.{Card}
 use Rattle.choosing.specs.Choosing.{Chosen, NoRoom, Marked, chosen}
 use Rattle.choosing.proofs.RuleLaws.{has_room}
 use Rattle.landmarks.specs.Landmarks.{Marks, Is, mark_of, place_of, near}
 use Rattle.landmarks.specs.Laws.{Landmark}
 use Rattle.landmarks.proofs.Closest.{landmark_there}
 use Rattle.landmarks.proofs.Near.{near_test}
-use Rattle.plans.specs.Code.{Outcome, Made, plan_for, outcome_of, post_in, card_in, marks_of_outcome, post_of_outcome, card_of_outcome, goes_on_at, go, Code, Signposts}
+use Rattle.plans.specs.Code.{Outcome, Made, plan_for, outcome_of, post_in, card_in, marks_of_outcome, post_of_outcome, card_of_outcome, goes_on_at, go, Signposts}
 use Rattle.plans.specs.Plans.{plan_of}
 use Rattle.posts.specs.Posts.{post_of}
 use Rattle.posts.specs.declared.kinds.Line.{Line}
 use Rattle.posts.proofs.Finding.{post_length}
-use Rattle.walking.specs.Walks.{as_hint, goes, posts_of}
-use Rattle.walking.proofs.Saying.{known, hint_says, known_off, saying_rule}
-use Rattle.ways.specs.Map.{Map, Hop, Nowhere, At, far, hop}
+use Rattle.walking.specs.Walks.{as_hint, goes}
+use Rattle.walking.proofs.Saying.{hint_says, known_off, saying_rule}
+use Rattle.ways.specs.Map.{Map, Nowhere, At, hop}
 use Rattle.ways.specs.Ways.{Joined}
 use Rattle.ways.proofs.Certified.{certified}
 use Rattle.ways.proofs.Metric.{far_zero}

@@ -1,4 +1,4 @@
-use Rattle.std.proofs.Common.{◌≡◌, ℕ, ◌+◌, ◌<◌, Bool, true, false, cond, ltb, List, [], ◌∷◌, ◌++◌, map, Some, None, vec_items, Option, sym, refl, ap, ◌∙◌, arith}
+use Rattle.std.proofs.Common.{◌≡◌, ℕ, Bool, true, false, cond, ltb, List, [], ◌∷◌, ◌++◌, map, Some, None, sym, ap, ◌∙◌, arith}
 use Rattle.std.proofs.lemmas.List.FromFn.{map-range_with_len_more}
 use Rattle.std.proofs.lemmas.Result.{IfOk-from_err}
 use Rattle.std.proofs.lemmas.Bool.{lt-ltb}
@@ -22,17 +22,17 @@ pub unreachable-requires : goal.unreachable-requires
 unreachable-requires c =
     let s = c.args.land.now in
     let n = places_of c.args.land.now c.survey.result.now c.map.result.now c.len-n.result c.len-n.ensures c.map.ensures c.survey.ensures in
-    there (ltb c.loop-v.v (map_in s).n) (card_of (map_in s) (marks_of s) c.loop-v.v) (lt-ltb c.loop-v.v (map_in s).n (omega (arith, n, c.loop-v-test.true))) c.in-default.ensures
+    there (ltb c.loop-v.v (map_in s).n) (card_of (map_in s) (marks_of s) c.loop-v.v) (lt-ltb c.loop-v.v (map_in s).n (omega (arith, n, c.loop-v-test.true))) c.in_default.ensures
 
-pub returns-in-err-push : goal.returns-in-err-push
-returns-in-err-push c = IfOk-from_err c.from-residual.result _ c.from-residual.ensures.0
+pub returns-in_err-push : goal.returns-in_err-push
+returns-in_err-push c = IfOk-from_err c.from_residual.result _ c.from_residual.ensures.0
 
 pub loop-v-preserved : goal.loop-v-preserved
 loop-v-preserved c =
     let s = c.args.land.now in
     let n = places_of c.args.land.now c.survey.result.now c.map.result.now c.len-n.result c.len-n.ensures c.map.ensures c.survey.ensures in
     let x : c.in-Some.card ≡ card_of (map_in s) (marks_of s) c.loop-v.v = card (ltb c.loop-v.v (map_in s).n) (card_of (map_in s) (marks_of s) c.loop-v.v) c.in-Some.card (lt-ltb c.loop-v.v (map_in s).n (omega (arith, n, c.loop-v-test.true))) c.in-Some.ensures in
-    c.in-ok-push.ensures.items
+    c.in_ok-push.ensures.items
     ∙ ap (λ (xs : List Card). xs ++ c.in-Some.card ∷ []) c.loop-v.invariant
     ∙ ap (λ (y : Card). map (card_of (map_in s) (marks_of s)) (range_with_len 0 c.loop-v.v) ++ y ∷ []) x
     ∙ sym (map-range_with_len_more (card_of (map_in s) (marks_of s)) 0 c.loop-v.v c.loop-v.v (omega arith))

@@ -1,7 +1,6 @@
-use Rattle.std.proofs.Common.{◌≡◌, ℕ, ◌<◌, ◌≤◌, [], length, sym, ap, ◌∙◌, arith, below_more}
+use Rattle.std.proofs.Common.{[], length, ap, arith, below_more}
 use Rattle.posts.specs.Posts.{told}
 use Rattle.posts.specs.declared.kinds.Post.{Post}
-use Rattle.posts.specs.declared.kinds.Line.{Line}
 use Rattle.std.proofs.lemmas.List.{get_or-map}
 use Rattle.plans.proofs.listing.first_full.Goals as goal
 

@@ -1,4 +1,6 @@
 // Plans: the landmarks, posts and cards of a map.
+#![tactic(auto)]
+
 pub mod kinds;
 pub mod laws;
 pub mod listing;
