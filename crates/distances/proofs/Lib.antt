@@ -1,8 +1,12 @@
 pub mod Trees
 pub mod Following
+pub mod Ordering
 pub mod Searching
 pub mod Turns
 pub mod Numbers
 pub mod RowsOf
+pub mod OrdersOf
+pub mod Ranks
 pub mod Surveyed
 pub mod FirstArcs
+pub mod LowestApart

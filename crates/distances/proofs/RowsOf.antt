@@ -16,10 +16,10 @@ pub row_fits : (d n : ℕ) → d < n → d * n + n ≤ n * n
 row_fits d zero h = absurd (omega arith)
 row_fits d (suc m) h = omega (arith, mul-add-lt d (suc m) m (suc m) h (omega arith))
 
-mid_below : (p q : ℕ) (xs ys : List ℕ) (i : ℕ) → i < p → p ≤ length xs → get_or (put_mid p q xs ys) i 0 ≡ get_or xs i 0
+pub mid_below : (p q : ℕ) (xs ys : List ℕ) (i : ℕ) → i < p → p ≤ length xs → get_or (put_mid p q xs ys) i 0 ≡ get_or xs i 0
 mid_below p q xs ys i h l = search (rules, places)
 
-mid_here : (p q : ℕ) (xs ys : List ℕ) (i : ℕ) → i < length ys → p ≤ length xs → get_or (put_mid p q xs ys) (p + i) 0 ≡ get_or ys i 0
+pub mid_here : (p q : ℕ) (xs ys : List ℕ) (i : ℕ) → i < length ys → p ≤ length xs → get_or (put_mid p q xs ys) (p + i) 0 ≡ get_or ys i 0
 mid_here p q xs ys i h l = search (rules, places)
 
 -- the array stays as long as it was

@@ -2,6 +2,7 @@
 use Rattle.std.specs.Prelude.{◌≡◌, ℕ, ◌+◌, ◌*◌, ◌<◌, List, length, Ok, Err, Result, slice_index}
 use Rattle.maps.specs.declared.kinds.Fault.{Fault}
 use Rattle.maps.specs.declared.kinds.Fault.TheVariants.{Range}
+use Rattle.distances.specs.Orders.{OrderRows}
 use Rattle.ways.specs.Map.{Map, Far, Never, At, far, Hop, Nowhere, To, hop}
 
 -- the number of a distance in 32 bits; the highest where there is no way
@@ -40,3 +41,10 @@ Worked z d dist next dist' next' (Err f) =
 abbrev pub WorkedAll : Map → List ℕ → List ℕ → List ℕ → List ℕ → Result (Unit {0}) Fault → Type 0
 WorkedAll z dist next dist' next' (Ok _) = (length dist ≡ z.n * z.n) × (length next ≡ z.n * z.n) × FarRows z dist' × HopRows z next'
 WorkedAll z dist next dist' next' (Err f) = (f ≡ Range) × (dist' ≡ dist) × (next' ≡ next) × ((length dist ≡ z.n * z.n) × (length next ≡ z.n * z.n) → ⊥)
+
+-- the same of all rows and of the orders
+abbrev pub WorkedAllInOrder : Map → List ℕ → List ℕ → List ℕ → List ℕ → List ℕ → List ℕ → Result (Unit {0}) Fault → Type 0
+WorkedAllInOrder z dist next order dist' next' order' (Ok _) =
+    (length dist ≡ z.n * z.n) × (length next ≡ z.n * z.n) × (length order ≡ z.n * z.n) × FarRows z dist' × HopRows z next' × OrderRows z.n dist' order'
+WorkedAllInOrder z dist next order dist' next' order' (Err f) =
+    (f ≡ Range) × (dist' ≡ dist) × (next' ≡ next) × (order' ≡ order) × ((length dist ≡ z.n * z.n) × (length next ≡ z.n * z.n) × (length order ≡ z.n * z.n) → ⊥)

@@ -3,6 +3,7 @@
 
 mod dijkstra;
 pub mod joined;
+pub mod lent;
 mod nexts;
 mod queue;
 pub mod rows;
@@ -10,3 +11,4 @@ pub mod survey;
 pub mod surveying;
 #[cfg(test)]
 mod tests;
+pub mod unreached;

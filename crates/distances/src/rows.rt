@@ -1,7 +1,8 @@
 // One row of distances and next places, and all rows of a map.
 ghost use Rattle.std.specs.Prelude.{◌≡◌, ℕ, ◌*◌, ◌<◌, ◌≤◌, length};
 ghost use Rattle.maps.specs.Charts.{chart};
-ghost use Rattle.distances.specs.Rows.{FarRow, HopRow, Worked, WorkedAll};
+ghost use Rattle.distances.specs.Orders.{OrderRow};
+ghost use Rattle.distances.specs.Rows.{FarRow, HopRow, Worked, WorkedAll, WorkedAllInOrder};
 
 use crate::dijkstra::distances;
 use crate::nexts::nexts;
@@ -9,14 +10,16 @@ use maps::kinds::Fault;
 use maps::map::RoadMap;
 
 /// Works out one row in memory of the right size.
-fn work_out(map: &RoadMap<'_>, d: usize, dist: &mut [u32], next: &mut [u16])
+fn work_out(map: &RoadMap<'_>, d: usize, dist: &mut [u32], next: &mut [u16], order: &mut [u16])
     requires here { d < map.now.n }
     requires dists { length dist.old ≡ map.now.n }
     requires nexts { length next.old ≡ map.now.n }
+    requires orders { length order.old ≡ map.now.n }
     ensures far { FarRow (chart map.now) d dist.new }
     ensures hop { HopRow (chart map.now) d next.new }
+    ensures order { OrderRow map.now.n dist.new order.new }
 {
-    distances(map, d, dist);
+    distances(map, d, dist, order);
     nexts(map, d, dist, next);
 }
 
@@ -28,7 +31,8 @@ pub fn row(map: &RoadMap<'_>, d: usize, dist: &mut [u32], next: &mut [u16]) -> R
     if d >= map.n || dist.len() != map.n || next.len() != map.n {
         return Err(Fault::Range);
     }
-    work_out(map, d, dist, next);
+    let mut order = [0u16; 512];
+    work_out(map, d, dist, next, &mut order[0..map.n]);
     Ok(())
 }
 
@@ -41,10 +45,45 @@ pub fn all_rows(map: &RoadMap<'_>, dist: &mut [u32], next: &mut [u16]) -> Result
     if dist.len() != n * n || next.len() != n * n {
         return Err(Fault::Range);
     }
+    let mut order = [0u16; 512];
     for d in 0..n {
         let from = d * n;
         let to = from + n;
-        work_out(map, d, &mut dist[from..to], &mut next[from..to]);
+        work_out(
+            map,
+            d,
+            &mut dist[from..to],
+            &mut next[from..to],
+            &mut order[0..n],
+        );
+    }
+    Ok(())
+}
+
+/// The same, and for each `d` all places in the order of their distances from it, in entries `d * n` to `d * n + n - 1` of `order`, if the map
+/// hangs together. Takes n times as long as one row. Refuses, and leaves all as it was, memory of another size than n times n.
+pub fn all_rows_in_order(
+    map: &RoadMap<'_>,
+    dist: &mut [u32],
+    next: &mut [u16],
+    order: &mut [u16],
+) -> Result<(), Fault>
+    ensures { WorkedAllInOrder (chart map.now) dist.old next.old order.old dist.new next.new order.new result }
+{
+    let n = map.n;
+    if dist.len() != n * n || next.len() != n * n || order.len() != n * n {
+        return Err(Fault::Range);
+    }
+    for d in 0..n {
+        let from = d * n;
+        let to = from + n;
+        work_out(
+            map,
+            d,
+            &mut dist[from..to],
+            &mut next[from..to],
+            &mut order[from..to],
+        );
     }
     Ok(())
 }

@@ -5,7 +5,8 @@ ghost use Rattle.distances.specs.Surveys.{Surveyed, far_in, hop_in};
 ghost use Rattle.maps.specs.Charts.{ground};
 ghost use Rattle.ways.specs.Map.{far, hop};
 
-use super::rows::all_rows;
+use super::lent::Rows;
+use super::rows::all_rows_in_order;
 use super::survey::Survey;
 use maps::buf::RoadMapBuf;
 use maps::kinds::Fault;
@@ -19,8 +20,14 @@ impl Survey {
         let n = map.len() as usize;
         let mut dist = vec![in heap; 0u32; n * n]?;
         let mut next = vec![in heap; 0u16; n * n]?;
-        all_rows(&map.map(), &mut dist, &mut next)?;
-        Ok(Survey { map, dist, next })
+        let mut order = vec![in heap; 0u16; next.len()]?;
+        all_rows_in_order(&map.map(), &mut dist, &mut next, &mut order)?;
+        Ok(Survey {
+            map,
+            dist,
+            next,
+            order,
+        })
     }
 
     /// The map.
@@ -50,5 +57,18 @@ impl Survey {
             return u16::MAX;
         }
         self.next[d * n + a]
+    }
+
+    /// All distances and orders, lent to be gone through.
+    pub fn rows(&self) -> Rows<'_>
+        ensures n { result.n ≡ self.now.map.n }
+        ensures dist { result.dist.now ≡ self.now.dist.items }
+        ensures order { result.order.now ≡ self.now.order.items }
+    {
+        Rows {
+            n: self.map.len() as usize,
+            dist: &self.dist,
+            order: &self.order,
+        }
     }
 }

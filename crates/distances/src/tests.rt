@@ -1,6 +1,6 @@
 // Rows of small maps and of the largest, and what is refused.
 use super::joined::hangs_together;
-use super::rows::{all_rows, row};
+use super::rows::{all_rows, all_rows_in_order, row};
 use maps::buf::RoadMapBuf;
 use maps::kinds::{Fault, Road};
 use std::alloc::{AllocError, Global};
@@ -80,6 +80,27 @@ fn one_place_and_two(rt: HostRuntime) -> Result<(), Fail> {
 }
 
 #[test]
+fn orders_of_one_place_and_two(rt: HostRuntime) -> Result<(), Fail> {
+    let one = lay(rt.alloc(), 1, &[])?;
+    let mut dist = [7u32; 1];
+    let mut next = [7u16; 1];
+    let mut order = [7u16; 1];
+    assert!(rt; all_rows_in_order(&one.map(), &mut dist, &mut next, &mut order).is_ok());
+    assert_eq!(rt; dist, [0]);
+    assert_eq!(rt; next, [NOWHERE]);
+    assert_eq!(rt; order, [0]);
+    let two = lay(rt.alloc(), 2, &[road(0, 1, 9)])?;
+    let mut far = [7u32; 4];
+    let mut hop = [7u16; 4];
+    let mut places = [7u16; 4];
+    assert!(rt; all_rows_in_order(&two.map(), &mut far, &mut hop, &mut places).is_ok());
+    assert_eq!(rt; far, [0, 9, 9, 0]);
+    assert_eq!(rt; hop, [NOWHERE, 0, 1, NOWHERE]);
+    assert_eq!(rt; places, [0, 1, 1, 0]);
+    Ok(())
+}
+
+#[test]
 fn a_map_apart(rt: HostRuntime) -> Result<(), Fail> {
     let apart = lay(rt.alloc(), 4, &[road(0, 1, 1), road(2, 3, 1)])?;
     assert!(rt; !hangs_together(&apart.map()));
@@ -125,6 +146,21 @@ fn other_sizes_are_refused(rt: HostRuntime) -> Result<(), Fail> {
         Some(Fault::Range)
     );
     assert_eq!(rt; far, [7, 7, 7, 7]);
+    Ok(())
+}
+
+#[test]
+fn orders_of_other_sizes_are_refused(rt: HostRuntime) -> Result<(), Fail> {
+    let map = lay(rt.alloc(), 2, &[road(0, 1, 1)])?;
+    let mut far = [7u32; 4];
+    let mut hop = [7u16; 3];
+    let mut order = [7u16; 4];
+    assert_eq!(rt;
+        all_rows_in_order(&map.map(), &mut far, &mut hop, &mut order).err(),
+        Some(Fault::Range)
+    );
+    assert_eq!(rt; far, [7, 7, 7, 7]);
+    assert_eq!(rt; order, [7, 7, 7, 7]);
     Ok(())
 }
 

@@ -30,7 +30,7 @@ travels_journey (suc k) z posts card cost u =
     (onward_like (travels k z posts card) (journey k z (saying posts card) card.place) z cost u (goes (posts u) card u) (λ c e. travels_journey k z posts card c e))
 
 -- ---- what lines and hints say
-hint_says : (h : Hop) → as_hint (hint_of h) ≡ h
+pub hint_says : (h : Hop) → as_hint (hint_of h) ≡ h
 hint_says Nowhere = refl
 hint_says (To e) = refl
 
@@ -84,7 +84,7 @@ module _ (z : Map) (l : Marks) (joined : Joined z) (v : ℕ) (vn : v < z.n) wher
   ]
 
   -- off v it comes to what is near
-  known_off : (u : ℕ) → (u ≡ v → ⊥) → known z l v u ≡ near z l u v
+  pub known_off : (u : ℕ) → (u ≡ v → ⊥) → known z l v u ≡ near z l u v
   known_off u ne = or_off (near z l u v) (eqb u v) (ne_eqb u v ne)
 
   -- what posts and card say is the rule of that set and that landmark

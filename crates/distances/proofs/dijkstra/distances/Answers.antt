@@ -1,9 +1,10 @@
-use Rattle.std.proofs.Common.{◌≡◌, ℕ, List, set, replicate, sym, refl, ap, ◌∙◌, subst, arith}
+use Rattle.std.proofs.Common.{◌≡◌, ℕ, List, get_or, set, replicate, sym, refl, ap, ◌∙◌, subst, arith}
 use Rattle.maps.specs.Charts.{chart}
 use Rattle.maps.proofs.Views.{view_arcs}
 use Rattle.distances.specs.Keys.{key_of, Moved}
-use Rattle.distances.proofs.Searching.{none, Searching, searching_start}
-use Rattle.distances.proofs.Turns.{turn_room, turn_level, turn_places, turn_more, turn_less, turn_end}
+use Rattle.distances.proofs.Ordering.{Ordering}
+use Rattle.distances.proofs.Searching.{none, settled, Searching, searching_start, order_start}
+use Rattle.distances.proofs.Turns.{turn_room, turn_level, turn_places, turn_place, turn_more, turn_ordered, turn_less, turn_end, turn_sorted}
 use Rattle.distances.proofs.dijkstra.distances.Goals as goal
 
 pub loop-u-init : goal.loop-u-init
@@ -15,6 +16,38 @@ loop-u-init c =
           (searching_start (chart m) m.n c.args.d refl (view_arcs m).few c.requires.here c.new-queue.result.keys c.put.new.self.keys
           (subst (λ n. Moved n c.new-queue.result.keys c.put.new.self.keys c.args.d (key_of 0 c.args.d)) c.new-queue.ensures.size c.put.ensures.moved)
           c.new-queue.ensures.none),
+      subst (λ (xs : List ℕ). Ordering m.n (λ a. get_or (set xs c.args.d 0) a 0) (settled m.n (set xs c.args.d 0) c.put.new.self.keys) c.args.order.now 0) (sym e)
+          (order_start (chart m) m.n c.args.d refl (view_arcs m).few c.requires.here c.new-queue.result.keys c.put.new.self.keys
+          (subst (λ n. Moved n c.new-queue.result.keys c.put.new.self.keys c.args.d (key_of 0 c.args.d)) c.new-queue.ensures.size c.put.ensures.moved)
+          c.new-queue.ensures.none c.args.order.now),
+    )
+
+pub bounds-order-count : goal.bounds-order-count
+bounds-order-count c =
+    omega (
+      arith,
+      turn_place c.args.map.now c.args.d c.requires.here c.loop-u.dist c.loop-u.queue.keys c.loop-u.invariant.1 c.loop-u.queue.n c.loop-u.invariant.0 c.in-Some.u c.pop.new.self.keys c.in-Some.ensures.popped
+          c.loop-u.order c.loop-u.count c.loop-u.invariant.2,
+      c.loop-u.auto.order,
+      c.requires.orders,
+    )
+
+pub offset_bounds-order-count : goal.offset_bounds-order-count
+offset_bounds-order-count c =
+    omega (
+      arith,
+      turn_place c.args.map.now c.args.d c.requires.here c.loop-u.dist c.loop-u.queue.keys c.loop-u.invariant.1 c.loop-u.queue.n c.loop-u.invariant.0 c.in-Some.u c.pop.new.self.keys c.in-Some.ensures.popped
+          c.loop-u.order c.loop-u.count c.loop-u.invariant.2,
+      (view_arcs c.args.map.now).few,
+    )
+
+pub overflow_add-count : goal.overflow_add-count
+overflow_add-count c =
+    omega (
+      arith,
+      turn_place c.args.map.now c.args.d c.requires.here c.loop-u.dist c.loop-u.queue.keys c.loop-u.invariant.1 c.loop-u.queue.n c.loop-u.invariant.0 c.in-Some.u c.pop.new.self.keys c.in-Some.ensures.popped
+          c.loop-u.order c.loop-u.count c.loop-u.invariant.2,
+      (view_arcs c.args.map.now).few,
     )
 
 pub follow-requires : goal.follow-requires
@@ -51,8 +84,18 @@ loop-u-preserved c =
       turn_more m c.args.d c.requires.here c.loop-u.dist c.loop-u.queue.keys c.loop-u.invariant.1 c.loop-u.queue.n c.loop-u.invariant.0 c.in-Some.u c.pop.new.self.keys s.popped
           c.arcs-arcs.result.places.now c.arcs-arcs.result.costs.now c.arcs-arcs.ensures.places c.arcs-arcs.ensures.costs
           c.pop.new.self.n (s.size ∙ c.loop-u.invariant.0) c.follow.new.dist c.follow.new.queue.keys c.follow.ensures.followed c.follow.auto.dist,
+      turn_ordered m c.args.d c.requires.here c.loop-u.dist c.loop-u.queue.keys c.loop-u.invariant.1 c.loop-u.queue.n c.loop-u.invariant.0 c.in-Some.u c.pop.new.self.keys s.popped
+          c.arcs-arcs.result.places.now c.arcs-arcs.result.costs.now c.arcs-arcs.ensures.places c.arcs-arcs.ensures.costs
+          c.pop.new.self.n (s.size ∙ c.loop-u.invariant.0) c.follow.new.dist c.follow.new.queue.keys c.follow.ensures.followed c.follow.auto.dist
+          c.loop-u.order c.loop-u.count c.loop-u.invariant.2 (c.loop-u.auto.order ∙ c.requires.orders),
     )
 
 pub returns : goal.returns
 returns c =
-    turn_end c.args.map.now c.args.d c.requires.here c.loop-u.dist c.loop-u.queue.keys c.loop-u.invariant.1 c.loop-u.queue.n c.loop-u.invariant.0 c.pop.new.self.keys c.in_default.ensures.popped
+    let m = c.args.map.now in
+    let p = c.in_default.ensures.popped in
+    record {
+      far = turn_end m c.args.d c.requires.here c.loop-u.dist c.loop-u.queue.keys c.loop-u.invariant.1 c.loop-u.queue.n c.loop-u.invariant.0 c.pop.new.self.keys p;
+      order = turn_sorted m c.args.d c.requires.here c.loop-u.dist c.loop-u.queue.keys c.loop-u.invariant.1 c.loop-u.queue.n c.loop-u.invariant.0 c.pop.new.self.keys p
+          c.loop-u.order c.loop-u.count c.loop-u.invariant.2;
+    }

@@ -1,11 +1,14 @@
-use Rattle.std.proofs.Common.{◌≡◌, ◌-◌}
+use Rattle.std.proofs.Common.{◌≡◌, ◌-◌, get_or}
 use Rattle.ways.specs.Ways.{count_below}
 use Rattle.maps.specs.Charts.{chart}
+use Rattle.distances.proofs.Ordering.{Ordering}
 use Rattle.distances.proofs.Searching.{Searching, settled}
 use Rattle.distances.proofs.dijkstra.distances.Given as goal
 
 abbrev pub invariant-loop-u : goal.invariant-loop-u
-invariant-loop-u l = (l.queue.n ≡ l.map.n) × Searching (chart l.map) l.map.n l.d l.dist l.queue.keys
+invariant-loop-u l =
+    (l.queue.n ≡ l.map.n) × Searching (chart l.map) l.map.n l.d l.dist l.queue.keys
+    × Ordering l.map.n (λ a. get_or l.dist a 0) (settled l.map.n l.dist l.queue.keys) l.order l.count
 
 -- how many places are not settled yet
 abbrev pub decreases-loop-u : goal.decreases-loop-u

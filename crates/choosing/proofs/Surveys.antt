@@ -1,0 +1,36 @@
+-- What a survey of a map that hangs together gives to choosing: a table of its distances, and the orders. Assumes nothing.
+use Rattle.std.proofs.Common.{◌≡◌, ℕ, ◌+◌, ◌*◌, ◌<◌, true, get_or, vec_items, sym, refl, ap, ◌∙◌}
+use Rattle.ways.specs.Map.{At, far}
+use Rattle.ways.specs.Ways.{Joined, hangs_together}
+use Rattle.ways.proofs.Hanging.{hanging_together}
+use Rattle.ways.proofs.Metric.{symmetric}
+use Rattle.maps.specs.Charts.{ground}
+use Rattle.distances.specs.Rows.{far_number}
+use Rattle.distances.specs.declared.survey.Survey.{Survey}
+use Rattle.distances.proofs.Ranks.{survey_orders}
+use Rattle.distances.proofs.Surveyed.{ground_few, ground_both, ground_fits}
+use Rattle.choosing.specs.Tables.{apart, Table}
+use Rattle.choosing.specs.Turns.{Orders}
+
+module _ (s : Survey) (h : hangs_together (ground s.map) ≡ true) where
+  pub survey_joined : Joined (ground s.map)
+  survey_joined = (hanging_together (ground s.map) (ground_both s.map) (ground_few s.map).0).0 h
+
+  survey_is : (v u : ℕ) → v < s.map.n → u < s.map.n → far (ground s.map) v u ≡ At (apart s.map.n (vec_items s.dist) v u)
+  survey_is v u vn un =
+      let j = survey_joined v u vn un in
+      j.1 ∙ ap At (sym (s.fars v u (vn, un) ∙ ap far_number j.1))
+
+  pub survey_table : Table (ground s.map) s.map.n (vec_items s.dist)
+  survey_table = record {
+    places = refl;
+    is = survey_is;
+    both = λ v u vn un. (let e = symmetric (ground s.map) (ground_both s.map) v u vn un in
+        s.fars v u (vn, un) ∙ ap far_number e ∙ sym (s.fars u v (un, vn)));
+  }
+
+  reached : (v u : ℕ) → v < s.map.n → u < s.map.n → get_or (vec_items s.dist) (v * s.map.n + u) 0 < 4294967295
+  reached v u vn un = ground_fits s.map v u (apart s.map.n (vec_items s.dist) v u) vn un (survey_is v u vn un)
+
+  pub survey_sorted : Orders s.map.n (vec_items s.dist) (vec_items s.order)
+  survey_sorted v vn = survey_orders s v vn (λ u un. reached v u vn un)
