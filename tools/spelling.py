@@ -12,8 +12,13 @@ import os
 import re
 import sys
 
-# Where the rule's own name stands for something else already: a lemma that would have its function's name gets _lem.
+# Where the rule's own name stands for something else already: a lemma that would have its function's name gets _lem. And names
+# that are words of the prover (first_of, ground), that read badly, or that a function of src/ has which does something else.
 SETTLED = {
+    "first_of": "first_on_way",
+    "ground": "ground_of",
+    "readMap": "read_map_at",
+    "threeInARow": "three_in_a_row",
     "arcs-of": "arcs_of_lem",
     "no-road": "no_road_lem",
     "rises-to": "rises_to_lem",

@@ -7,7 +7,7 @@ use Rattle.ways.proofs.Counting.{count_more, count_within}
 use Rattle.landmarks.specs.Landmarks.{Marks, nearest, line_count}
 use Rattle.landmarks.proofs.Near.{lines_few}
 use Rattle.choosing.specs.Choosing.{sum_below, above, with_mark, Best, NoPlace, Place, or_better, best, Chosen, NoRoom, Marked, go_on, choose, chosen, first}
-use Rattle.choosing.specs.Laws.{BestPlace, Roomy, Crowded, Rule, fits, gives_up, goes_on, ByTheRule, RuleAlone, HasRoom, NoRoomFound, TurnsSuffice, FewPlaces, three_in_arow, OthersMayFit}
+use Rattle.choosing.specs.Laws.{BestPlace, Roomy, Crowded, Rule, fits, gives_up, goes_on, ByTheRule, RuleAlone, HasRoom, NoRoomFound, TurnsSuffice, FewPlaces, three_in_a_row, OthersMayFit}
 use Rattle.choosing.proofs.Sums.{sum_none, sum_each}
 
 -- ---- lines above room, and posts that have more
@@ -215,7 +215,7 @@ pub others_may_fit : OthersMayFit
 unfolding choose best sum_below count_below within lowest nearest
 others_may_fit = (refl, each)
   where
-    each : (u : ℕ) → u < 3 → line_count three_in_arow (λ v. eqb v 1) u ≤ 1
+    each : (u : ℕ) → u < 3 → line_count three_in_a_row (λ v. eqb v 1) u ≤ 1
     each zero h = omega arith
     each (suc zero) h = omega arith
     each (suc (suc zero)) h = omega arith

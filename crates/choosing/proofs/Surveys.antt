@@ -4,7 +4,7 @@ use Rattle.ways.specs.Map.{At, far}
 use Rattle.ways.specs.Ways.{Joined, hangs_together}
 use Rattle.ways.proofs.Hanging.{hanging_together}
 use Rattle.ways.proofs.Metric.{symmetric}
-use Rattle.maps.specs.Charts.{ground}
+use Rattle.maps.specs.Charts.{ground_of}
 use Rattle.distances.specs.Rows.{far_number}
 use Rattle.distances.specs.declared.survey.Survey.{Survey}
 use Rattle.distances.proofs.Ranks.{survey_orders}
@@ -12,20 +12,20 @@ use Rattle.distances.proofs.Surveyed.{ground_few, ground_both, ground_fits}
 use Rattle.choosing.specs.Tables.{apart, Table}
 use Rattle.choosing.specs.Turns.{Orders}
 
-module _ (s : Survey) (h : hangs_together (ground s.map) ≡ true) where
-  pub survey_joined : Joined (ground s.map)
-  survey_joined = (hanging_together (ground s.map) (ground_both s.map) (ground_few s.map).0).0 h
+module _ (s : Survey) (h : hangs_together (ground_of s.map) ≡ true) where
+  pub survey_joined : Joined (ground_of s.map)
+  survey_joined = (hanging_together (ground_of s.map) (ground_both s.map) (ground_few s.map).0).0 h
 
-  survey_is : (v u : ℕ) → v < s.map.n → u < s.map.n → far (ground s.map) v u ≡ At (apart s.map.n (vec_items s.dist) v u)
+  survey_is : (v u : ℕ) → v < s.map.n → u < s.map.n → far (ground_of s.map) v u ≡ At (apart s.map.n (vec_items s.dist) v u)
   survey_is v u vn un =
       let j = survey_joined v u vn un in
       j.1 ∙ ap At (sym (s.fars v u (vn, un) ∙ ap far_number j.1))
 
-  pub survey_table : Table (ground s.map) s.map.n (vec_items s.dist)
+  pub survey_table : Table (ground_of s.map) s.map.n (vec_items s.dist)
   survey_table = record {
     places = refl;
     is = survey_is;
-    both = λ v u vn un. (let e = symmetric (ground s.map) (ground_both s.map) v u vn un in
+    both = λ v u vn un. (let e = symmetric (ground_of s.map) (ground_both s.map) v u vn un in
         s.fars v u (vn, un) ∙ ap far_number e ∙ sym (s.fars u v (un, vn)));
   }
 

@@ -1,13 +1,13 @@
 -- How landmarks are chosen, so that every post has room for its lines. Assumes nothing.
 --
 -- Glossary
---   room       how many lines a post has room for, its own place not counted
---   above      the lines above room, summed over all posts
---   with_mark  one landmark more
---   best       of the places 0 to k - 1 that aren't landmarks the one after which the lines above room are fewest, the lowest among equals
---   Chosen     what the rule ends with: landmarks that leave every post with room, or landmarks with which it gave up
---   choose     the rule from some landmarks on: it ends when no post has more lines than room, or when there are more landmarks than room
---   chosen     the rule from its start: place 0 is the only landmark
+--   room        how many lines a post has room for, its own place not counted
+--   above       the lines above room, summed over all posts
+--   with_mark   one landmark more
+--   best        of the places 0 to k - 1 that aren't landmarks the one after which the lines above room are fewest, the lowest among equals
+--   Chosen      what the rule ends with: landmarks that leave every post with room, or landmarks with which it gave up
+--   choose      the rule from some landmarks on: it ends when no post has more lines than room, or when there are more landmarks than room
+--   chosen      the rule from its start: place 0 is the only landmark
 use Rattle.std.specs.Prelude.{ℕ, zero, suc, ◌+◌, ◌-◌, cond, ◌||◌, ◌==◌, nat_lt}
 use Rattle.landmarks.specs.Landmarks.{Marks, line_count}
 use Rattle.ways.specs.Map.{Map}

@@ -1,9 +1,9 @@
 -- What choosing answers: the landmarks, or why there are none. Assumes nothing.
 --
 -- Glossary
---   Crowding  a post has most lines of all, and is the lowest such
---   Stopped   what the rule ended with, where the landmarks stand in a list
---   Chose     what choosing answers for a map and a room
+--   Crowding   a post has most lines of all, and is the lowest such
+--   Stopped    what the rule ended with, where the landmarks stand in a list
+--   Chose      what choosing answers for a map and a room
 use Rattle.std.specs.Prelude.{◌≡◌, ℕ, ◌+◌, ◌<◌, ◌≤◌, Bool, List, length, Some, None, Ok, Err, vec_items, vec_len, Result, Vec, slice_index}
 use Rattle.std.specs.declared.alloc.Global.{Global}
 use Rattle.choosing.specs.Choosing.{NoRoom, Marked, chosen}

@@ -51,8 +51,8 @@ FewPlaces = (z : Map) (room : ℕ) → z.n ≤ room + 1 → chosen z room ≡ Ma
 
 -- No room means that the rule found none: other landmarks may leave every post with room.
 --   0 - 1 - 2      a row of three places and room for 1 line: the rule gives up with 0 and 1, while 1 alone would do
-abbrev pub three_in_arow : Map
-three_in_arow = record { n = 3; cost = λ a e. cond ((a == 1 && (e == 0 || e == 2)) || (e == 1 && (a == 0 || a == 2))) 1 0 }
+abbrev pub three_in_a_row : Map
+three_in_a_row = record { n = 3; cost = λ a e. cond ((a == 1 && (e == 0 || e == 2)) || (e == 1 && (a == 0 || a == 2))) 1 0 }
 
 abbrev pub OthersMayFit : Type 0
-OthersMayFit = (chosen three_in_arow 1 ≡ NoRoom (with_mark 1 first)) × Roomy three_in_arow 1 (λ v. nat_eq v 1)
+OthersMayFit = (chosen three_in_a_row 1 ≡ NoRoom (with_mark 1 first)) × Roomy three_in_a_row 1 (λ v. nat_eq v 1)

@@ -1,10 +1,10 @@
 -- All distances of a map in a list, how far each place is from its landmark, and counting by them. Assumes nothing.
 --
 -- Glossary
---   table     all distances, row by row
---   away      how far each place is from its landmark
---   near      how many places are closer to a place than to their landmarks; the place itself is one of them, unless it is a landmark
---   lost      how many of these a landmark more takes away
+--   table   all distances, row by row
+--   away    how far each place is from its landmark
+--   near    how many places are closer to a place than to their landmarks; the place itself is one of them, unless it is a landmark
+--   lost    how many of these a landmark more takes away
 use Rattle.std.specs.Prelude.{◌≡◌, ℕ, ◌+◌, ◌-◌, ◌*◌, ◌<◌, ◌≤◌, cond, ◌&&◌, ltb, List, nat_le, nat_lt, slice_index}
 use Rattle.choosing.specs.Choosing.{sum_below}
 use Rattle.landmarks.specs.Landmarks.{Marks, away_of, mark_of}

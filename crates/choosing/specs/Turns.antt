@@ -1,9 +1,9 @@
 -- What one turn of choosing goes by, and what it finds. Assumes nothing.
 --
 -- Glossary
---   ball      how many places are closer to a place than its landmark is: the first so many of its order
---   Ready     what a turn goes by is in order
---   Picked    the place after which the lines above room are fewest, if any place is left
+--   ball     how many places are closer to a place than its landmark is: the first so many of its order
+--   Ready    what a turn goes by is in order
+--   Picked   the place after which the lines above room are fewest, if any place is left
 use Rattle.std.specs.Prelude.{◌≡◌, ℕ, ◌*◌, ◌<◌, ◌≤◌, Bool, false, List, length, Some, None, Option, slice_index, slice_index_or}
 use Rattle.choosing.specs.Choosing.{Best, NoPlace, Place, best}
 use Rattle.choosing.specs.Tables.{apart, Nears}

@@ -3,7 +3,7 @@ ghost use Rattle.std.specs.Prelude.{◌≡◌, ℕ, ◌<◌, ◌≤◌, length};
 ghost use Rattle.choosing.specs.Chosen.{Chose, Stopped};
 ghost use Rattle.choosing.specs.Tables.{Table};
 ghost use Rattle.choosing.specs.Turns.{Orders};
-ghost use Rattle.maps.specs.Charts.{ground};
+ghost use Rattle.maps.specs.Charts.{ground_of};
 ghost use Rattle.ways.specs.Map.{Map};
 
 use super::balls::shrink_all;
@@ -96,7 +96,7 @@ fn choose_on(rows: &Rows<'_>, room: u32, marks: &mut [bool]) -> Result<(), Crowd
 /// place by place. Refuses a map that doesn't hang together, and where there are more landmarks than room and still some post has more lines.
 /// With r landmarks it takes r times n times n steps, and for each place that has to be judged what is near it.
 pub fn choose(heap: Global, survey: &Survey, room: u8) -> Result<Vec<bool>, Unchosen>
-    ensures { Chose (ground survey.now.map) room result }
+    ensures { Chose (ground_of survey.now.map) room result }
 {
     if let Some(place) = unreached(&survey.map().map()) {
         return Err(Unchosen::Apart(place));

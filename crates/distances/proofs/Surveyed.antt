@@ -6,7 +6,7 @@ use Rattle.distances.specs.Rows.{FarRows, HopRows, far_number, hop_number}
 use Rattle.maps.proofs.Costs.{meaning}
 use Rattle.maps.proofs.SoundArcs.{arcs_of_lem}
 use Rattle.maps.specs.Arcs.{Arcs}
-use Rattle.maps.specs.Charts.{ground}
+use Rattle.maps.specs.Charts.{ground_of}
 use Rattle.maps.specs.declared.buf.RoadMapBuf.{RoadMapBuf}
 use Rattle.ways.proofs.LeastWays.{far_cheap}
 use Rattle.ways.specs.Map.{At, Map, far, hop}
@@ -37,12 +37,12 @@ module _ (b : RoadMapBuf) where
   pub ground_few : (0 < b.n) × (b.n ≤ 512)
   ground_few = (owner_arcs.some, owner_arcs.few)
 
-  pub ground_cheap : (a e : ℕ) → (ground b).cost a e ≤ 65535
+  pub ground_cheap : (a e : ℕ) → (ground_of b).cost a e ≤ 65535
   ground_cheap a e = omega (arith, b.same a e, (meaning b.n (vec_items b.starts) (vec_items b.places) (vec_items b.costs) owner_arcs).cheap a e)
 
-  pub ground_both : BothWays (ground b)
+  pub ground_both : BothWays (ground_of b)
   ground_both a e = sym (b.same a e) ∙ (meaning b.n (vec_items b.starts) (vec_items b.places) (vec_items b.costs) owner_arcs).both a e ∙ b.same e a
 
   -- every distance is below the number of no way
-  pub ground_fits : (d a c : ℕ) → d < b.n → a < b.n → far (ground b) d a ≡ At c → c < 4294967295
-  ground_fits d a c dn an e = omega (arith, ground_few.1, far_cheap (ground b) ground_cheap d a c dn an e)
+  pub ground_fits : (d a c : ℕ) → d < b.n → a < b.n → far (ground_of b) d a ≡ At c → c < 4294967295
+  ground_fits d a c dn an e = omega (arith, ground_few.1, far_cheap (ground_of b) ground_cheap d a c dn an e)

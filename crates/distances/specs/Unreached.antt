@@ -3,7 +3,7 @@
 -- Glossary
 --   first_apart    the first such place of a, a + 1, .., a + k - 1
 --   lowest_apart   the first of all places
---   Lowest        what that is: none just where the map hangs together, else a place that has no way, and all below it have one
+--   Lowest         what that is: none just where the map hangs together, else a place that has no way, and all below it have one
 use Rattle.std.specs.Prelude.{◌≡◌, ℕ, zero, suc, ◌+◌, ◌<◌, true, false, cond, Some, None, Option}
 use Rattle.ways.specs.Map.{Map, far, some}
 use Rattle.ways.specs.Ways.{hangs_together}

@@ -2,7 +2,7 @@
 ghost use Rattle.std.specs.Prelude.{◌≡◌, ℕ, ◌+◌, ◌*◌, ◌<◌, ◌≤◌, vec_len, slice_index};
 ghost use Rattle.distances.specs.Orders.{Whole, in_order, rank_in};
 ghost use Rattle.distances.specs.Rows.{far_number, hop_number};
-ghost use Rattle.maps.specs.Charts.{ground};
+ghost use Rattle.maps.specs.Charts.{ground_of};
 ghost use Rattle.ways.specs.Map.{far, hop};
 
 use maps::buf::RoadMapBuf;
@@ -18,8 +18,8 @@ pub struct Survey {
     ghost dists: { vec_len dist ≡ map.n * map.n },
     ghost nexts: { vec_len next ≡ map.n * map.n },
     ghost orders: { vec_len order ≡ map.n * map.n },
-    ghost fars: { (d a : ℕ) → (d < map.n) × (a < map.n) → slice_index dist.items (d * map.n + a) ≡ far_number (far (ground map) d a) },
-    ghost hops: { (d a : ℕ) → (d < map.n) × (a < map.n) → slice_index next.items (d * map.n + a) ≡ hop_number (hop (ground map) d a) },
+    ghost fars: { (d a : ℕ) → (d < map.n) × (a < map.n) → slice_index dist.items (d * map.n + a) ≡ far_number (far (ground_of map) d a) },
+    ghost hops: { (d a : ℕ) → (d < map.n) × (a < map.n) → slice_index next.items (d * map.n + a) ≡ hop_number (hop (ground_of map) d a) },
     // the order of each row, if it is whole: each place stands in it once, and distances rise
     ghost inside: { (d j : ℕ) → Whole map.n dist.items d × (j < map.n) → in_order map.n order.items d j < map.n },
     ghost there: { (d u : ℕ) → Whole map.n dist.items d × (u < map.n) → rank_in map.n order.items d u < map.n },

@@ -2,7 +2,7 @@
 ghost use Rattle.std.specs.Prelude.{◌≡◌, cond, ◌&&◌};
 ghost use Rattle.distances.specs.Rows.{far_number, hop_number};
 ghost use Rattle.distances.specs.Surveys.{Surveyed, far_in, hop_in};
-ghost use Rattle.maps.specs.Charts.{ground};
+ghost use Rattle.maps.specs.Charts.{ground_of};
 ghost use Rattle.ways.specs.Map.{far, hop};
 
 use super::lent::Rows;
@@ -39,7 +39,7 @@ impl Survey {
 
     /// How far place `a` is from place `d`; the highest number if there is no way, or no such place.
     pub fn far(&self, d: usize, a: usize) -> u32
-        ensures { result ≡ far_in (ground self.now.map) d a }
+        ensures { result ≡ far_in (ground_of self.now.map) d a }
     {
         let n = self.map.len() as usize;
         if d >= n || a >= n {
@@ -50,7 +50,7 @@ impl Survey {
 
     /// The next place from place `a` towards place `d`; the highest number if there is none, or no such place.
     pub fn hop(&self, d: usize, a: usize) -> u16
-        ensures { result ≡ hop_in (ground self.now.map) d a }
+        ensures { result ≡ hop_in (ground_of self.now.map) d a }
     {
         let n = self.map.len() as usize;
         if d >= n || a >= n {

@@ -5,7 +5,7 @@
 --   head_of          the first record, 5 bytes: the kind, how many places there are, how many roads
 --   read_roads       the first record and the roads
 --   apart            what is wrong with a map that doesn't hang together
---   read_map         a map that something else may follow: at its end it is told if it is apart
+--   read_map_at      a map that something else may follow: at its end it is told if it is apart
 --   read_last_map    a map with which the input has to end: bytes left over are told at its end too, and first
 --   read_whole_map   a map that is the whole input
 --   write_map        the bytes of a map
@@ -45,8 +45,8 @@ read_roads bytes =
 abbrev pub apart : Charted → Option Fault
 apart m = cond (hangs_together (map_of m.places m.roads)) None (Some Apart)
 
-abbrev pub read_map : List ℕ → Place → Read Charted
-read_map bytes at = then (read_roads bytes at) (λ m p. closed (apart m) m p)
+abbrev pub read_map_at : List ℕ → Place → Read Charted
+read_map_at bytes at = then (read_roads bytes at) (λ m p. closed (apart m) m p)
 
 abbrev pub last_fault : List ℕ → Charted → Place → Option Fault
 last_fault bytes m p = or_else (left_over bytes p) (apart m)

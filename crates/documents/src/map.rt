@@ -3,7 +3,7 @@ ghost use Rattle.std.specs.Prelude.{◌≡◌, IfOk, None};
 ghost use Rattle.ways.specs.Ways.{hangs_together};
 ghost use Rattle.maps.specs.Roads.{map_fault, map_of};
 ghost use Rattle.reading.specs.Telling.{Tells, Told};
-ghost use Rattle.documents.specs.Maps.{read_roads, read_map, read_last_map, read_whole_map, apart, last_fault, write_map};
+ghost use Rattle.documents.specs.Maps.{read_roads, read_map_at, read_last_map, read_whole_map, apart, last_fault, write_map};
 ghost use Rattle.documents.specs.Views.{charted, Built};
 
 use super::kinds::MapHead;
@@ -67,7 +67,7 @@ fn roads_at(heap: Global, from: &mut Reader<'_>) -> Result<RoadMapBuf, Stop>
 /// The map that begins here, where something else may follow it. It is refused at the first record that has a fault, and there for the lowest;
 /// at its end, if it doesn't hang together. It takes time for the roads, and as long as one row.
 pub fn map_at(heap: Global, from: &mut Reader<'_>) -> Result<RoadMapBuf, Stop>
-    ensures told { Told charted (read_map from.old.bytes.now from.old.at) result from.new.at }
+    ensures told { Told charted (read_map_at from.old.bytes.now from.old.at) result from.new.at }
     ensures same { from.new.bytes.now ≡ from.old.bytes.now }
 {
     let map = roads_at(heap, from)?;

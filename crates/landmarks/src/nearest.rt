@@ -2,7 +2,7 @@
 ghost use Rattle.std.specs.Prelude.{◌≡◌, cond};
 ghost use Rattle.landmarks.specs.Landmarks.{mark_of, marks_in};
 ghost use Rattle.landmarks.specs.Numbers.{landmark_in, or_nearer};
-ghost use Rattle.maps.specs.Charts.{ground};
+ghost use Rattle.maps.specs.Charts.{ground_of};
 
 use super::kinds::Nearest;
 use distances::survey::Survey;
@@ -33,7 +33,7 @@ pub(crate) fn is_marked(marks: &[bool], k: usize) -> bool
 /// The landmark of place `v` and how far it is, among the places that `marks` names; none if there is no landmark or no such place.
 /// Looks at every place once.
 pub fn landmark_of(survey: &Survey, marks: &[bool], v: usize) -> Option<Nearest>
-    ensures { result ≡ landmark_in (ground survey.now.map) (marks_in marks.now) v }
+    ensures { result ≡ landmark_in (ground_of survey.now.map) (marks_in marks.now) v }
 {
     let n = survey.map().len() as usize;
     if v >= n {

@@ -10,5 +10,5 @@ abbrev pub chart : RoadMap → Map
 chart m = map_in m.n m.starts.now m.places.now m.costs.now
 
 -- the map of an owner is that of its roads
-abbrev pub ground : RoadMapBuf → Map
-ground b = map_of b.n (vec_items b.roads)
+abbrev pub ground_of : RoadMapBuf → Map
+ground_of b = map_of b.n (vec_items b.roads)

@@ -9,7 +9,7 @@ use Rattle.distances.specs.declared.survey.Survey.{Survey}
 use Rattle.landmarks.specs.Landmarks.{Marks, marks_in}
 use Rattle.landmarks.specs.Lands.{Settled}
 use Rattle.maps.specs.Arcs.{Arcs, Meaning}
-use Rattle.maps.specs.Charts.{ground}
+use Rattle.maps.specs.Charts.{ground_of}
 use Rattle.maps.specs.declared.buf.RoadMapBuf.{RoadMapBuf}
 use Rattle.maps.specs.declared.kinds.Fault.{Fault}
 use Rattle.maps.specs.declared.kinds.Fault.TheVariants.{Apart, Cost, Form, Memory, Order, Plan, Range, Room, Same}
@@ -32,7 +32,7 @@ module _ (b : RoadMapBuf) where
   arcs : Arcs b.n (vec_items b.starts) (vec_items b.places) (vec_items b.costs)
   arcs = arcs_of_lem b.n (vec_items b.starts) (vec_items b.places) (vec_items b.costs) b.sound
 
-  ground_means : Meaning (ground b)
+  ground_means : Meaning (ground_of b)
   ground_means =
       let m = meaning b.n (vec_items b.starts) (vec_items b.places) (vec_items b.costs) arcs in
       record {
@@ -42,9 +42,9 @@ module _ (b : RoadMapBuf) where
         cheap = λ a e. omega (arith, b.same a e, m.cheap a e);
       }
 
-  pub stands : (room : ℕ) (l : Marks) (p : Planned) → hangs_together (ground b) ≡ true → chosen (ground b) room ≡ Marked l → p ≡ plan_of (ground b) room l → Stands (ground b) room p
+  pub stands : (room : ℕ) (l : Marks) (p : Planned) → hangs_together (ground_of b) ≡ true → chosen (ground_of b) room ≡ Marked l → p ≡ plan_of (ground_of b) room l → Stands (ground_of b) room p
   stands room l p hangs e is =
-      let z = ground b in
+      let z = ground_of b in
       let joined : Joined z = (hanging_together z (ground_both b) (ground_few b).0).0 hangs in
       let room-there = has_room z room l e in
       let posts : (u : ℕ) → u < z.n → post_in p u ≡ post_of z l u = λ u un. ap (λ (q : Planned). post_in q u) is ∙ post_is z room l u un in
@@ -59,7 +59,7 @@ module _ (b : RoadMapBuf) where
       }
 
 -- ---- what is left to go wrong once landmarks are chosen
-pub settled_memory : (s : Survey) (marks : List Bool) (f : Fault) → Settled s marks (Err f) → marks_in marks 0 ≡ true → 0 < (ground s.map).n → f ≡ Memory
+pub settled_memory : (s : Survey) (marks : List Bool) (f : Fault) → Settled s marks (Err f) → marks_in marks 0 ≡ true → 0 < (ground_of s.map).n → f ≡ Memory
 settled_memory s marks Range h t n = absurd (both_ways (marks_in marks 0) (h 0 n) t)
 settled_memory s marks Memory h t n = refl
 settled_memory s marks Form h t n = absurd h

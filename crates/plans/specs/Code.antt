@@ -1,11 +1,11 @@
 -- What planning and walking must be: what the posts and cards of a plan say, as laws over the definitions that the contracts use. Assumes nothing.
 --
 -- Glossary
---   Outcome    what planning comes to: the landmarks and the plan, or the landmarks with which the rule gave up
---   outcome_of  what it comes to for a map and a room
---   go         where one goes on at u with a card, by what is near and which places are landmarks
---   Code       the laws of any planning and walking
---   Signposts  that these definitions keep them
+--   Outcome      what planning comes to: the landmarks and the plan, or the landmarks with which the rule gave up
+--   outcome_of   what it comes to for a map and a room
+--   go           where one goes on at u with a card, by what is near and which places are landmarks
+--   Code         the laws of any planning and walking
+--   Signposts    that these definitions keep them
 use Rattle.std.specs.Prelude.{◌≡◌, ℕ, ◌<◌, cond, List, [], length, ◌==◌, slice_index_or}
 use Rattle.cards.specs.Cards.{card_of}
 use Rattle.cards.specs.declared.kinds.Card.{Card}

@@ -4,7 +4,7 @@
 --   Planned   what stands in a plan: for how many lines a post has room, the landmarks, the lines of every post, the cards
 --   planned   what stands in a plan in memory
 --   marked    the landmarks among the places v, v + 1, .., v + k - 1, in that order
---   plan_of    the plan of a map: its landmarks, and for each place the post and the card that the rules give it
+--   plan_of   the plan of a map: its landmarks, and for each place the post and the card that the rules give it
 use Rattle.std.specs.Prelude.{ℕ, zero, suc, ◌+◌, cond, List, [], ◌∷◌, map, vec_items}
 use Rattle.std.specs.List.{range_with_len}
 use Rattle.cards.specs.Cards.{card_of}

@@ -1,9 +1,9 @@
 -- What making a plan gives, and what is promised of a plan so made. Assumes nothing.
 --
 -- Glossary
---   Listed   the plan of a map and its landmarks, or a post that has more lines than room
---   Stands   a plan keeps what was promised: room on every post, and everybody arrives
---   Planning what making a plan for a map and a room gives
+--   Listed     the plan of a map and its landmarks, or a post that has more lines than room
+--   Stands     a plan keeps what was promised: room on every post, and everybody arrives
+--   Planning   what making a plan for a map and a room gives
 use Rattle.std.specs.Prelude.{◌≡◌, ℕ, ◌<◌, ◌≤◌, true, length, Some, None, Ok, Err, Result}
 use Rattle.choosing.specs.Choosing.{NoRoom, chosen}
 use Rattle.choosing.specs.Chosen.{Crowding}

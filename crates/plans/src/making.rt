@@ -1,6 +1,6 @@
 // Making the plan of a map.
 ghost use Rattle.std.specs.Prelude.{◌≡◌};
-ghost use Rattle.maps.specs.Charts.{ground};
+ghost use Rattle.maps.specs.Charts.{ground_of};
 ghost use Rattle.maps.specs.declared.kinds.Fault.TheVariants.{Memory as MemoryFault};
 ghost use Rattle.plans.specs.Stands.{Planning};
 ghost use Rattle.plans.specs.declared.kinds.NoPlan.TheVariants.{Memory};
@@ -27,7 +27,7 @@ fn out_of_memory(fault: Fault) -> NoPlan
 /// them. Takes as long as all rows and choosing. Refuses room for fewer than 8 lines, a map that doesn't hang together, and where the rule
 /// finds no landmarks that leave every post with room.
 pub fn make(heap: Global, map: RoadMapBuf, room: u8) -> Result<Plan, NoPlan>
-    ensures { Planning (ground map) room result }
+    ensures { Planning (ground_of map) room result }
 {
     if room < 8 {
         return Err(NoPlan::Range);

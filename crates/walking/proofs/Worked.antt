@@ -1,6 +1,6 @@
 -- The worked cases hold: computed, all at once. Assumes nothing.
 use Rattle.std.proofs.Common.{◌≡◌, ℕ, Bool, true, false, cond, ◌&&◌, ◌||◌, eqb, List, [], ◌∷◌, refl, ap, ◌∙◌, arith}
-use Rattle.ways.specs.Map.{within, lowest, first_of}
+use Rattle.ways.specs.Map.{within, lowest, first_on_way}
 use Rattle.ways.specs.Ways.{BothWays, all_below}
 use Rattle.ways.proofs.Hanging.{hanging_together}
 use Rattle.landmarks.specs.Landmarks.{nearest}
@@ -12,11 +12,11 @@ use Rattle.walking.specs.SmallMaps.{Road, leads, priced, road_map, flat_roads, f
 use Rattle.walking.specs.Cases.{same_list, all_hold, none_near, CasesHold, LandmarksEverywhere, NinePlaces, Thrice}
 
 pub cases_hold : CasesHold
-unfolding within lowest first_of nearest lines_of travels trail priced same_list all_hold
+unfolding within lowest first_on_way nearest lines_of travels trail priced same_list all_hold
 cases_hold = refl
 
 pub landmarks_everywhere : LandmarksEverywhere
-unfolding within lowest first_of nearest lines_of travels priced all_below none_near
+unfolding within lowest first_on_way nearest lines_of travels priced all_below none_near
 landmarks_everywhere = refl
 
 pub nine_places : NinePlaces
@@ -41,7 +41,7 @@ pub road_map_both : (n : ℕ) (rs : List Road) → BothWays (road_map n rs)
 road_map_both n rs a e = priced_both rs a e
 
 pub thrice_reached : Thrice
-unfolding within lowest first_of nearest lines_of travels priced all_below
+unfolding within lowest first_on_way nearest lines_of travels priced all_below
 thrice_reached = record {
   z = flat;
   l = only 0;

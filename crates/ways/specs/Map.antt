@@ -65,9 +65,9 @@ abbrev pub on_way : Map → ℕ → ℕ → ℕ → Bool
 on_way z d a e = some (plus (z.cost a e) (far z d e)) && same_far (plus (z.cost a e) (far z d e)) (far z d a)
 
 -- the lowest such place of e, e + 1, .., e + k - 1
-unfoldable pub first_of : Map → ℕ → ℕ → ℕ → ℕ → Hop
-first_of z d a e zero = Nowhere
-first_of z d a e (suc k) = cond (on_way z d a e) (To e) (first_of z d a (e + 1) k)
+unfoldable pub first_on_way : Map → ℕ → ℕ → ℕ → ℕ → Hop
+first_on_way z d a e zero = Nowhere
+first_on_way z d a e (suc k) = cond (on_way z d a e) (To e) (first_on_way z d a (e + 1) k)
 
 abbrev pub hop : Map → ℕ → ℕ → Hop
-hop z d a = cond (a == d) Nowhere (first_of z d a 0 z.n)
+hop z d a = cond (a == d) Nowhere (first_on_way z d a 0 z.n)

@@ -11,7 +11,7 @@ use Rattle.landmarks.specs.Landmarks.{mark_of, place_of}
 use Rattle.landmarks.specs.Lands.{map_in, marks_of}
 use Rattle.landmarks.specs.Numbers.{mark_number}
 use Rattle.landmarks.specs.declared.kinds.Nearest.{Nearest}
-use Rattle.maps.specs.Charts.{ground}
+use Rattle.maps.specs.Charts.{ground_of}
 use Rattle.std.proofs.lemmas.Bool.{ltb-true}
 
 pub returns : goal.returns
@@ -26,7 +26,7 @@ returns c =
     let p : c.in-Some.found.place ≡ place_of (mark_of z l v) = ap (λ (x : Nearest). x.place) f.1 ∙ place_number (mark_of z l v) in
     let h : c.of_number.result ≡ (card_of z l v).hint =
     c.of_number.ensures.read
-    ∙ ap hint_from (c.hop-next.ensures ∙ ap (λ (x : Survey). hop_in (ground x.map) v c.in-Some.found.place) c.survey.ensures ∙ ap (λ (k : ℕ). hop_in z v k) p)
+    ∙ ap hint_from (c.hop-next.ensures ∙ ap (λ (x : Survey). hop_in (ground_of x.map) v c.in-Some.found.place) c.survey.ensures ∙ ap (λ (k : ℕ). hop_in z v k) p)
     ∙ hint_is z l v few.0 few.1 vn in
     ap (λ (k : ℕ). Some (record { place = v; landmark = k; hint = c.of_number.result })) p
     ∙ ap (λ (x : Hint). Some (record { place = v; landmark = place_of (mark_of z l v); hint = x })) h

@@ -2,7 +2,7 @@ use Rattle.std.proofs.Common.{◌≡◌, ℕ, Bool, true, List, length, Some, ve
 use Rattle.std.proofs.lemmas.List.{take_at}
 use Rattle.ways.specs.Map.{Map}
 use Rattle.ways.specs.Ways.{hangs_together}
-use Rattle.maps.specs.Charts.{chart, ground}
+use Rattle.maps.specs.Charts.{chart, ground_of}
 use Rattle.maps.specs.Roads.{cost_in}
 use Rattle.maps.specs.declared.buf.RoadMapBuf.{RoadMapBuf}
 use Rattle.maps.specs.declared.map.RoadMap.{RoadMap}
@@ -16,8 +16,8 @@ use Rattle.choosing.proofs.Surveys.{survey_table, survey_sorted}
 use Rattle.choosing.proofs.choice.choose.Goals as goal
 
 -- the map that is lent is that of the survey
-lent : (view : RoadMap) (b m : RoadMapBuf) → view.n ≡ b.n → ((a e : ℕ) → (chart view).cost a e ≡ cost_in (vec_items b.roads) a e) → b ≡ m → chart view ≡ ground m
-lent view b m n same e = view_is view b.n (vec_items b.roads) n same ∙ ap ground e
+lent : (view : RoadMap) (b m : RoadMapBuf) → view.n ≡ b.n → ((a e : ℕ) → (chart view).cost a e ≡ cost_in (vec_items b.roads) a e) → b ≡ m → chart view ≡ ground_of m
+lent view b m n same e = view_is view b.n (vec_items b.roads) n same ∙ ap ground_of e
 
 pub returns-in-Some : goal.returns-in-Some
 returns-in-Some c = subst (λ (z : Map). Lowest z (Some c.in-Some.place)) (lent c.map-2.result c.map.result.now c.args.survey.now.map c.map-2.ensures.n c.map-2.ensures.same c.map.ensures) c.in-Some.ensures.lowest
@@ -33,7 +33,7 @@ orders_as n m xs ys os ps e p q o =
 pub choose_on-requires : goal.choose_on-requires
 choose_on-requires c =
     let s = c.args.survey.now in
-    let h : hangs_together (ground s.map) ≡ true = subst (λ (z : Map). hangs_together z ≡ true) (lent c.map-2.result c.map.result.now c.args.survey.now.map c.map-2.ensures.n c.map-2.ensures.same c.map.ensures) c.in_default.ensures.lowest in
+    let h : hangs_together (ground_of s.map) ≡ true = subst (λ (z : Map). hangs_together z ≡ true) (lent c.map-2.result c.map.result.now c.args.survey.now.map c.map-2.ensures.n c.map-2.ensures.same c.map.ensures) c.in_default.ensures.lowest in
     record {
       marks = search rules;
       rooms = omega arith;
@@ -44,19 +44,19 @@ choose_on-requires c =
 pub returns-in-Ok : goal.returns-in-Ok
 returns-in-Ok c =
     let s = c.args.survey.now in
-    let h : hangs_together (ground s.map) ≡ true = subst (λ (z : Map). hangs_together z ≡ true) (lent c.map-2.result c.map.result.now c.args.survey.now.map c.map-2.ensures.n c.map-2.ensures.same c.map.ensures) c.in_default.ensures.lowest in
-    let t = table_as (ground s.map) s.map.n c.rows-rows.result.n (vec_items s.dist) c.rows-rows.result.dist.now c.rows-rows.ensures.n c.rows-rows.ensures.dist (survey_table s h) in
+    let h : hangs_together (ground_of s.map) ≡ true = subst (λ (z : Map). hangs_together z ≡ true) (lent c.map-2.result c.map.result.now c.args.survey.now.map c.map-2.ensures.n c.map-2.ensures.same c.map.ensures) c.in_default.ensures.lowest in
+    let t = table_as (ground_of s.map) s.map.n c.rows-rows.result.n (vec_items s.dist) c.rows-rows.result.dist.now c.rows-rows.ensures.n c.rows-rows.ensures.dist (survey_table s h) in
     let l : length c.choose_on.new.marks ≡ c.in_ok-marks.marks.len = c.choose_on.auto.marks ∙ c.deref_mut.ensures.len in
     let len : c.in_ok-marks.marks.len ≡ c.rows-rows.result.n = search rules in (
       h,
       len ∙ c.rows-rows.ensures.n,
-      c.in-Ok.ensures (ground s.map) t ∙ ap (λ (xs : List Bool). Marked (marks_in xs)) (sym (take_at c.choose_on.new.marks _ c.in_ok-marks.marks.len l)),
+      c.in-Ok.ensures (ground_of s.map) t ∙ ap (λ (xs : List Bool). Marked (marks_in xs)) (sym (take_at c.choose_on.new.marks _ c.in_ok-marks.marks.len l)),
     )
 
 pub returns-in-Err : goal.returns-in-Err
 returns-in-Err c =
     let s = c.args.survey.now in
-    let h : hangs_together (ground s.map) ≡ true = subst (λ (z : Map). hangs_together z ≡ true) (lent c.map-2.result c.map.result.now c.args.survey.now.map c.map-2.ensures.n c.map-2.ensures.same c.map.ensures) c.in_default.ensures.lowest in
-    let t = table_as (ground s.map) s.map.n c.rows-rows.result.n (vec_items s.dist) c.rows-rows.result.dist.now c.rows-rows.ensures.n c.rows-rows.ensures.dist (survey_table s h) in
-    let r = c.in-Err.ensures (ground s.map) t in
+    let h : hangs_together (ground_of s.map) ≡ true = subst (λ (z : Map). hangs_together z ≡ true) (lent c.map-2.result c.map.result.now c.args.survey.now.map c.map-2.ensures.n c.map-2.ensures.same c.map.ensures) c.in_default.ensures.lowest in
+    let t = table_as (ground_of s.map) s.map.n c.rows-rows.result.n (vec_items s.dist) c.rows-rows.result.dist.now c.rows-rows.ensures.n c.rows-rows.ensures.dist (survey_table s h) in
+    let r = c.in-Err.ensures (ground_of s.map) t in
     (h, marks_in c.choose_on.new.marks, r.0, r.1)

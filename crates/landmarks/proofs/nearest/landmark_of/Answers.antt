@@ -9,17 +9,17 @@ use Rattle.landmarks.proofs.nearest.landmark_of.Goals.{else-is_marked, then-is_m
 use Rattle.landmarks.specs.Landmarks.{mark_of, marks_in, nearest}
 use Rattle.landmarks.specs.Numbers.{mark_numbers, or_nearer}
 use Rattle.landmarks.specs.declared.kinds.Nearest.{Nearest}
-use Rattle.maps.specs.Charts.{ground}
+use Rattle.maps.specs.Charts.{ground_of}
 use Rattle.maps.specs.declared.buf.RoadMapBuf.{RoadMapBuf}
 use Rattle.ways.specs.Map.{At, far}
 
 pub loop-k-init : goal.loop-k-init
-loop-k-init c = ap mark_numbers (sym (nearest_none (ground c.args.survey.now.map) (marks_in c.args.marks.now) c.args.v 0))
+loop-k-init c = ap mark_numbers (sym (nearest_none (ground_of c.args.survey.now.map) (marks_in c.args.marks.now) c.args.v 0))
 
 pub loop-k-preserved : goal.loop-k-preserved
 loop-k-preserved c =
     let b = c.args.survey.now.map in
-    let z = ground b in
+    let z = ground_of b in
     let l = marks_in c.args.marks.now in
     let v = c.args.v in
     let k = c.loop-k.k in
@@ -39,7 +39,7 @@ loop-k-preserved c =
 pub returns : goal.returns
 returns c =
     let b = c.args.survey.now.map in
-    let z = ground b in
+    let z = ground_of b in
     let l = marks_in c.args.marks.now in
     let n : c.len-n.result ≡ b.n = c.len-n.ensures ∙ ap (λ (x : RoadMapBuf). x.n) c.map.ensures in
     let e : c.loop-k.k ≡ b.n = omega (arith, n) in

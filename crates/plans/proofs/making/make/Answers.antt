@@ -6,7 +6,7 @@ use Rattle.distances.proofs.Surveyed.{ground_few}
 use Rattle.landmarks.specs.Landmarks.{marks_in}
 use Rattle.landmarks.specs.Lands.{map_in, marks_of}
 use Rattle.landmarks.specs.declared.land.Land.{Land}
-use Rattle.maps.specs.Charts.{ground}
+use Rattle.maps.specs.Charts.{ground_of}
 use Rattle.maps.specs.declared.buf.RoadMapBuf.{RoadMapBuf}
 use Rattle.plans.specs.Plans.{planned}
 use Rattle.plans.specs.Stands.{Stands}
@@ -15,14 +15,14 @@ use Rattle.plans.proofs.making.make.Goals as goal
 use Rattle.ways.specs.Ways.{hangs_together}
 
 -- the land is that of the survey and the marks, so what was chosen for the map of the survey was chosen for its own
-chosen_in : (s : Land) (t : Survey) (marks : List Bool) (room : ℕ) → s.survey ≡ t → vec_items s.marks ≡ marks → chosen (ground t.map) room ≡ Marked (marks_in marks) → chosen (map_in s) room ≡ Marked (marks_of s)
-chosen_in s t marks room e f c = ap (λ (x : Survey). chosen (ground x.map) room) e ∙ c ∙ ap (λ (xs : List Bool). Marked (marks_in xs)) (sym f)
+chosen_in : (s : Land) (t : Survey) (marks : List Bool) (room : ℕ) → s.survey ≡ t → vec_items s.marks ≡ marks → chosen (ground_of t.map) room ≡ Marked (marks_in marks) → chosen (map_in s) room ≡ Marked (marks_of s)
+chosen_in s t marks room e f c = ap (λ (x : Survey). chosen (ground_of x.map) room) e ∙ c ∙ ap (λ (xs : List Bool). Marked (marks_in xs)) (sym f)
 
 pub out_of_memory-requires : goal.out_of_memory-requires
 out_of_memory-requires c =
     let w = c.in_ok-marks.ensures in
     let s = c.in-Ok.survey in
-    settled_memory s (vec_items c.in_ok-marks.marks) c.in-Err.fault c.in-Err.ensures (has_room (ground s.map) c.args.room (marks_in (vec_items c.in_ok-marks.marks)) w.2).0 (ground_few s.map).0
+    settled_memory s (vec_items c.in_ok-marks.marks) c.in-Err.fault c.in-Err.ensures (has_room (ground_of s.map) c.args.room (marks_in (vec_items c.in_ok-marks.marks)) w.2).0 (ground_few s.map).0
 
 pub out_of_memory-requires-in-Err-plan_of : goal.out_of_memory-requires-in-Err-plan_of
 out_of_memory-requires-in-Err-plan_of c =
@@ -39,8 +39,8 @@ returns-in-Ok-plan_of c =
     let g = c.in-Ok-new.ensures in
     let q = c.in-Ok-plan_of.ensures in
     let same : l.survey.map ≡ c.args.map = ap (λ (x : Survey). x.map) g.0 ∙ c.in-Ok.ensures in
-    let hangs : hangs_together (map_in l) ≡ true = ap (λ (x : Survey). hangs_together (ground x.map)) g.0 ∙ w.0 in
+    let hangs : hangs_together (map_in l) ≡ true = ap (λ (x : Survey). hangs_together (ground_of x.map)) g.0 ∙ w.0 in
     let e = chosen_in l c.in-Ok.survey (vec_items c.in_ok-marks.marks) c.args.room g.0 g.1 w.2 in (
       omega arith,
-      subst (λ (b : RoadMapBuf). Stands (ground b) c.args.room (planned c.in-Ok-plan_of.plan)) same (stands l.survey.map c.args.room (marks_of l) (planned c.in-Ok-plan_of.plan) hangs e q.0),
+      subst (λ (b : RoadMapBuf). Stands (ground_of b) c.args.room (planned c.in-Ok-plan_of.plan)) same (stands l.survey.map c.args.room (marks_of l) (planned c.in-Ok-plan_of.plan) hangs e q.0),
     )

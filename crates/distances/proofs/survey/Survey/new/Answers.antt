@@ -1,6 +1,6 @@
 use Rattle.std.proofs.Common.{◌≡◌, length, vec_items, refl, ◌∙◌, rules}
 use Rattle.std.proofs.lemmas.List.{take_at}
-use Rattle.maps.specs.Charts.{chart, ground}
+use Rattle.maps.specs.Charts.{chart, ground_of}
 use Rattle.maps.proofs.Views.{view_is}
 use Rattle.distances.proofs.Ranks.{orders_of, order_inside, order_there, order_back, order_forth, order_rises}
 use Rattle.distances.proofs.Surveyed.{fars_of, hops_of}
@@ -21,8 +21,8 @@ invariant_of-result c =
       dists = search rules;
       nexts = search rules;
       orders = search rules;
-      fars = fars_of (chart c.map.result) (ground b) b.n c.all_rows_in_order.new.dist _ ds e refl w.3;
-      hops = hops_of (chart c.map.result) (ground b) b.n c.all_rows_in_order.new.next _ (take_at c.all_rows_in_order.new.next _ c.in_ok-next.next.len nl) e refl w.4;
+      fars = fars_of (chart c.map.result) (ground_of b) b.n c.all_rows_in_order.new.dist _ ds e refl w.3;
+      hops = hops_of (chart c.map.result) (ground_of b) b.n c.all_rows_in_order.new.next _ (take_at c.all_rows_in_order.new.next _ c.in_ok-next.next.len nl) e refl w.4;
       inside = order_inside b.n _ _ o;
       there = order_there b.n _ _ o;
       back = order_back b.n _ _ o;

@@ -11,7 +11,7 @@ use Rattle.landmarks.specs.Lands.{Settled}
 use Rattle.landmarks.specs.Numbers.{landmark_in, mark_number}
 use Rattle.landmarks.specs.declared.kinds.Nearest.{Nearest}
 use Rattle.landmarks.specs.declared.land.Land.{Land}
-use Rattle.maps.specs.Charts.{ground}
+use Rattle.maps.specs.Charts.{ground_of}
 use Rattle.maps.specs.declared.buf.RoadMapBuf.{RoadMapBuf}
 use Rattle.maps.specs.declared.kinds.Fault.{Fault}
 
@@ -19,8 +19,8 @@ pub returns-in_default : goal.returns-in_default
 returns-in_default c =
     let b = c.args.survey.map in
     let n : c.len-n.result ≡ b.n = c.len-n.ensures ∙ ap (λ (x : RoadMapBuf). x.n) c.map.ensures in
-    found_none (ground b) (marks_in (vec_items c.args.marks)) c.loop-v.v (omega (arith, n, c.loop-v-test.true))
-    (c.in_default.ensures ∙ ap (λ (xs : List Bool). landmark_in (ground b) (marks_in xs) c.loop-v.v) c.deref.ensures.value)
+    found_none (ground_of b) (marks_in (vec_items c.args.marks)) c.loop-v.v (omega (arith, n, c.loop-v-test.true))
+    (c.in_default.ensures ∙ ap (λ (xs : List Bool). landmark_in (ground_of b) (marks_in xs) c.loop-v.v) c.deref.ensures.value)
 
 pub returns-in_err-push : goal.returns-in_err-push
 returns-in_err-push c =
@@ -30,7 +30,7 @@ returns-in_err-push c =
 pub loop-v-preserved : goal.loop-v-preserved
 loop-v-preserved c =
     let b = c.args.survey.map in
-    let z = ground b in
+    let z = ground_of b in
     let l = marks_in (vec_items c.args.marks) in
     let v = c.loop-v.v in
     let none : Nearest = record { place = 0; away = 0 } in
