@@ -29,7 +29,7 @@ fn follow(places: &[u16], costs: &[u16], away: u32, dist: &mut [u32], queue: &mu
 
 /// Writes how far each place is from `d`, the highest number where there is no way; and the places in the order in which they are settled,
 /// which is that of their distances, if every place has a way. Each place is settled once and each arc followed once: (n + roads) times as often as n can be halved, at most.
-pub(crate) fn distances(map: &RoadMap<'_>, d: usize, dist: &mut [u32], order: &mut [u16])
+pub(crate) fn distances_in_order(map: &RoadMap<'_>, d: usize, dist: &mut [u32], order: &mut [u16])
     requires here { d < map.now.n }
     requires dists { length dist.old ≡ map.now.n }
     requires orders { length order.old ≡ map.now.n }
@@ -47,4 +47,15 @@ pub(crate) fn distances(map: &RoadMap<'_>, d: usize, dist: &mut [u32], order: &m
         let arcs = map.arcs(u);
         follow(arcs.places, arcs.costs, dist[u], dist, &mut queue);
     }
+}
+
+/// Writes how far each place is from `d`, the highest number where there is no way.
+/// Each place is settled once and each arc followed once: (n + roads) times as often as n can be halved, at most.
+pub(crate) fn distances(map: &RoadMap<'_>, d: usize, dist: &mut [u32])
+    requires here { d < map.now.n }
+    requires dists { length dist.old ≡ map.now.n }
+    ensures { FarRow (chart map.now) d dist.new }
+{
+    let mut order = [0u16; 512];
+    distances_in_order(map, d, dist, &mut order[0..map.n]);
 }

@@ -11,8 +11,7 @@ fn reaches_all(map: &RoadMap<'_>, dist: &mut [u32]) -> bool
     requires { length dist.old ≡ map.now.n }
     ensures { result ≡ hangs_together (chart map.now) }
 {
-    let mut order = [0u16; 512];
-    distances(map, 0, dist, &mut order[0..map.n]);
+    distances(map, 0, dist);
     for a in 0..map.n {
         if dist[a] == u32::MAX {
             return false;

@@ -4,13 +4,31 @@ ghost use Rattle.maps.specs.Charts.{chart};
 ghost use Rattle.distances.specs.Orders.{OrderRow};
 ghost use Rattle.distances.specs.Rows.{FarRow, HopRow, Worked, WorkedAll, WorkedAllInOrder};
 
-use crate::dijkstra::distances;
+use crate::dijkstra::{distances, distances_in_order};
 use crate::nexts::nexts;
 use maps::kinds::Fault;
 use maps::map::RoadMap;
 
 /// Works out one row in memory of the right size.
-fn work_out(map: &RoadMap<'_>, d: usize, dist: &mut [u32], next: &mut [u16], order: &mut [u16])
+fn work_out(map: &RoadMap<'_>, d: usize, dist: &mut [u32], next: &mut [u16])
+    requires here { d < map.now.n }
+    requires dists { length dist.old ≡ map.now.n }
+    requires nexts { length next.old ≡ map.now.n }
+    ensures far { FarRow (chart map.now) d dist.new }
+    ensures hop { HopRow (chart map.now) d next.new }
+{
+    distances(map, d, dist);
+    nexts(map, d, dist, next);
+}
+
+/// The same, and the places in the order of their distances from `d`, if every place has a way.
+fn work_out_in_order(
+    map: &RoadMap<'_>,
+    d: usize,
+    dist: &mut [u32],
+    next: &mut [u16],
+    order: &mut [u16],
+)
     requires here { d < map.now.n }
     requires dists { length dist.old ≡ map.now.n }
     requires nexts { length next.old ≡ map.now.n }
@@ -19,7 +37,7 @@ fn work_out(map: &RoadMap<'_>, d: usize, dist: &mut [u32], next: &mut [u16], ord
     ensures hop { HopRow (chart map.now) d next.new }
     ensures order { OrderRow map.now.n dist.new order.new }
 {
-    distances(map, d, dist, order);
+    distances_in_order(map, d, dist, order);
     nexts(map, d, dist, next);
 }
 
@@ -31,8 +49,7 @@ pub fn row(map: &RoadMap<'_>, d: usize, dist: &mut [u32], next: &mut [u16]) -> R
     if d >= map.n || dist.len() != map.n || next.len() != map.n {
         return Err(Fault::Range);
     }
-    let mut order = [0u16; 512];
-    work_out(map, d, dist, next, &mut order[0..map.n]);
+    work_out(map, d, dist, next);
     Ok(())
 }
 
@@ -45,17 +62,10 @@ pub fn all_rows(map: &RoadMap<'_>, dist: &mut [u32], next: &mut [u16]) -> Result
     if dist.len() != n * n || next.len() != n * n {
         return Err(Fault::Range);
     }
-    let mut order = [0u16; 512];
     for d in 0..n {
         let from = d * n;
         let to = from + n;
-        work_out(
-            map,
-            d,
-            &mut dist[from..to],
-            &mut next[from..to],
-            &mut order[0..n],
-        );
+        work_out(map, d, &mut dist[from..to], &mut next[from..to]);
     }
     Ok(())
 }
@@ -77,7 +87,7 @@ pub fn all_rows_in_order(
     for d in 0..n {
         let from = d * n;
         let to = from + n;
-        work_out(
+        work_out_in_order(
             map,
             d,
             &mut dist[from..to],

@@ -12,8 +12,7 @@ fn first_apart(map: &RoadMap<'_>, dist: &mut [u32]) -> Option<u16>
     ensures value { result ≡ lowest_apart (chart map.now) }
     ensures lowest { Lowest (chart map.now) result }
 {
-    let mut order = [0u16; 512];
-    distances(map, 0, dist, &mut order[0..map.n]);
+    distances(map, 0, dist);
     for a in 0..map.n {
         if dist[a] == u32::MAX {
             return Some(a as u16);

@@ -3,7 +3,7 @@ use Rattle.ways.specs.Ways.{count_below}
 use Rattle.maps.specs.Charts.{chart}
 use Rattle.distances.proofs.Ordering.{Ordering}
 use Rattle.distances.proofs.Searching.{Searching, settled}
-use Rattle.distances.proofs.dijkstra.distances.Given as goal
+use Rattle.distances.proofs.dijkstra.distances_in_order.Given as goal
 
 abbrev pub invariant-loop-u : goal.invariant-loop-u
 invariant-loop-u l =

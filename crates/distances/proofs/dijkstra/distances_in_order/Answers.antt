@@ -5,7 +5,7 @@ use Rattle.distances.specs.Keys.{key_of, Moved}
 use Rattle.distances.proofs.Ordering.{Ordering}
 use Rattle.distances.proofs.Searching.{none, settled, Searching, searching_start, order_start}
 use Rattle.distances.proofs.Turns.{turn_room, turn_level, turn_places, turn_place, turn_more, turn_ordered, turn_less, turn_end, turn_sorted}
-use Rattle.distances.proofs.dijkstra.distances.Goals as goal
+use Rattle.distances.proofs.dijkstra.distances_in_order.Goals as goal
 
 pub loop-u-init : goal.loop-u-init
 loop-u-init c =
