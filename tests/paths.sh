@@ -16,7 +16,7 @@ build_rust() {
     cargo build --release --offline --quiet --manifest-path "$root/$1/Cargo.toml"
 }
 
-# Proves and builds the program $1 of crates/ into the folder of programs; little is done where nothing has changed.
+# Proves and builds the program $1 of crates/ into the folder of programs; little is proved again where nothing has changed.
 # rt builds a program only to run it: it is run once, without input, and what it then says goes nowhere.
 build_program() {
     made=$root/crates/$1/out/$1
