@@ -24,11 +24,10 @@ impl Program<'_> {
     }
 
     fn add_file(self, name: &str, bytes: &mut Vec<u8>) -> Result<(), Ended> {
-        let more = fs::read(self.rt, name)
-            .map_err(|_| self.complain(format_args!("{name}: can't be read")))?;
-        bytes
-            .extend_from_slice(&more)
-            .map_err(|_| self.no_memory())
+        let more = fs::read(self.rt, name).map_err(|_| self.complain(format_args!(
+            "{name}: can't be read"
+        )))?;
+        bytes.extend_from_slice(&more).map_err(|_| self.no_memory())
     }
 
     fn unknown_option(self, word: &str) -> Ended {

@@ -7,11 +7,7 @@ use reading::reader::Reader;
 impl Program<'_> {
     /// Says how large a map is.
     pub fn say_map(self, map: &RoadMapBuf) -> Result<(), Ended> {
-        self.say(format_args!(
-            "map: {} places, {} roads",
-            map.len(),
-            map.roads().len()
-        ))
+        self.say(format_args!("map: {} places, {} roads", map.len(), map.roads().len()))
     }
 
     /// Reads the input that the words name, which begins with a map, and says what it read and how many bytes follow.

@@ -16,8 +16,7 @@ fn show_rows(program: Program<'_>, map: &RoadMap<'_>) -> Result<(), Ended> {
     let mut dist = vec![in heap; 0u32; map.n].map_err(|_| program.no_memory())?;
     let mut next = vec![in heap; 0u16; map.n].map_err(|_| program.no_memory())?;
     for to in 0..map.n {
-        row(map, to, &mut dist, &mut next)
-            .map_err(|_| program.complain("a row of another size"))?;
+        row(map, to, &mut dist, &mut next).map_err(|_| program.complain("a row of another size"))?;
         program.say(Row {
             to,
             dist: &dist,
@@ -50,12 +49,8 @@ fn repeat_rows(program: Program<'_>, map: &RoadMap<'_>, times: u32) -> Result<()
 // What comes after `--repeat`: how many times, and then the files.
 fn repeat(program: Program<'_>, given: &[String]) -> Result<(), Ended> {
     let wanted = "--repeat wants a number";
-    let (count, files) = given
-        .split_first()
-        .ok_or_else(|| program.complain(wanted))?;
-    let times = count
-        .parse::<u32>()
-        .map_err(|_| program.complain(wanted))?;
+    let (count, files) = given.split_first().ok_or_else(|| program.complain(wanted))?;
+    let times = count.parse::<u32>().map_err(|_| program.complain(wanted))?;
     repeat_rows(program, &program.map(files)?.map(), times)
 }
 

@@ -7,13 +7,13 @@ mod walk;
 use programs::kinds::{Ended, Program};
 use programs::messages::status_of;
 use std::process::ExitCode;
-use tour::tour;
+use tour::show_tour;
 
 // Says what was read; or after `--landmarks`, walks.
 fn show_or_tour(program: Program<'_>) -> Result<(), Ended> {
     let given = program.words()?;
     match given.as_slice() {
-        [first, rest @ ..] if first.as_str() == "--landmarks" => tour(program, rest),
+        [first, rest @ ..] if first.as_str() == "--landmarks" => show_tour(program, rest),
         words => program.show_leading_map(words),
     }
 }

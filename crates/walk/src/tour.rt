@@ -53,8 +53,9 @@ impl<'a> Tour<'a> {
     fn new(program: Program<'a>, list: &str, files: &[String]) -> Result<Tour<'a>, Ended> {
         let map = program.map(files)?;
         let marks = marks_of(program, list, usize::from(map.len()))?;
-        let (land, posts) = land_and_posts(program.rt.alloc(), map, marks)
-            .map_err(|fault| program.blame(fault))?;
+        let (land, posts) = land_and_posts(program.rt.alloc(), map, marks).map_err(
+            |fault| program.blame(fault),
+        )?;
         Ok(Tour {
             program,
             land,
@@ -89,12 +90,14 @@ impl<'a> Tour<'a> {
     }
 
     fn show_walk(&self, from: u16, to: u16) -> Result<(), Ended> {
-        let card = card_of(&self.land, to)
-            .ok_or_else(|| self.program.complain("a place that isn't there"))?;
+        let card = card_of(&self.land, to).ok_or_else(|| self
+            .program
+            .complain("a place that isn't there"))?;
         let map = self.land.survey().map();
         let mut passed = Vec::new(self.program.rt.alloc());
-        let end = walk_noting(&map.map(), &self.posts, card, from, &mut passed)
-            .map_err(|_| self.program.no_memory())?;
+        let end = walk_noting(&map.map(), &self.posts, card, from, &mut passed).map_err(|_| self
+            .program
+            .no_memory())?;
         self.program.say(Walk {
             from,
             to,
@@ -117,7 +120,7 @@ impl<'a> Tour<'a> {
 }
 
 /// What follows `--landmarks`: the list of landmarks, perhaps `--posts`, and the files of the map.
-pub(crate) fn tour(program: Program<'_>, given: &[String]) -> Result<(), Ended> {
+pub(crate) fn show_tour(program: Program<'_>, given: &[String]) -> Result<(), Ended> {
     match given {
         [list, option, files @ ..] if option.as_str() == "--posts" => {
             Tour::new(program, list.as_str(), files)?.show_plan()

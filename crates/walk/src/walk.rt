@@ -13,7 +13,12 @@ pub(crate) struct Walk<'a> {
 
 impl fmt::Display for Walk<'_> {
     fn fmt<W: fmt::Write>(&self, f: &mut fmt::Formatter<W>) -> fmt::Result {
-        let Walk { from, to, passed, end } = *self;
+        let Walk {
+            from,
+            to,
+            passed,
+            end,
+        } = *self;
         write!(f, "{from} to {to}: {from}")?;
         for place in passed {
             write!(f, " {place}")?;
