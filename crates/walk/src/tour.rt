@@ -53,9 +53,8 @@ impl<'a> Tour<'a> {
     fn new(program: Program<'a>, list: &str, files: &[String]) -> Result<Tour<'a>, Ended> {
         let map = program.map(files)?;
         let marks = marks_of(program, list, usize::from(map.len()))?;
-        let (land, posts) = land_and_posts(program.rt.alloc(), map, marks).map_err(
-            |fault| program.blame(fault),
-        )?;
+        let made = land_and_posts(program.rt.alloc(), map, marks);
+        let (land, posts) = made.map_err(|fault| program.blame(fault))?;
         Ok(Tour {
             program,
             land,
@@ -90,15 +89,16 @@ impl<'a> Tour<'a> {
     }
 
     fn show_walk(&self, from: u16, to: u16) -> Result<(), Ended> {
-        let card = card_of(&self.land, to).ok_or_else(|| self
-            .program
-            .complain("a place that isn't there"))?;
-        let map = self.land.survey().map();
-        let mut passed = Vec::new(self.program.rt.alloc());
-        let end = walk_noting(&map.map(), &self.posts, card, from, &mut passed).map_err(|_| self
-            .program
-            .no_memory())?;
-        self.program.say(Walk {
+        let Tour {
+            program,
+            land,
+            posts,
+        } = self;
+        let card = card_of(land, to).ok_or_else(|| program.complain("a place that isn't there"))?;
+        let mut passed = Vec::new(program.rt.alloc());
+        let noted = walk_noting(&land.survey().map().map(), posts, card, from, &mut passed);
+        let end = noted.map_err(|_| program.no_memory())?;
+        program.say(Walk {
             from,
             to,
             passed: &passed,

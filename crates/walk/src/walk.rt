@@ -1,4 +1,7 @@
 // A walk, and the line that tells it.
+ghost use Rattle.std.specs.Prelude.{Some};
+ghost use Rattle.walk.specs.Words.{walk_words};
+
 use std::fmt;
 use walking::kinds::End;
 
@@ -12,6 +15,8 @@ pub(crate) struct Walk<'a> {
 }
 
 impl fmt::Display for Walk<'_> {
+    ghost output = { λ walk. Some (walk_words walk) };
+
     fn fmt<W: fmt::Write>(&self, f: &mut fmt::Formatter<W>) -> fmt::Result {
         let Walk {
             from,
