@@ -4,3 +4,4 @@
 pub mod carding;
 pub mod hints;
 pub mod kinds;
+pub mod printing;

@@ -10,23 +10,14 @@ use std::alloc::{AllocError, Global};
 fn is_file(word: &str) -> bool
     ensures { result ≡ is_file word.now }
 {
-    if word == "-" {
-        return true;
-    }
-    let bytes = word.as_bytes();
-    bytes.is_empty() || bytes[0] != b'-'
+    word == "-" || !word.starts_with('-')
 }
 
 // Whether an option is one of those that want a word behind them.
 fn wants(takes: &[&str], option: &str) -> bool
     ensures { result ≡ wants_in (map (λ x. x.now) takes.now) option.now }
 {
-    for name in takes {
-        if *name == option {
-            return true;
-        }
-    }
-    false
+    takes.contains(&option)
 }
 
 // What a word is that may be an option, and what the next word is.
@@ -64,8 +55,7 @@ fn unmet_of<'a>(next: Next<'a>) -> Option<Item<'a>>
 {
     match next {
         Next::Of(option) => Some(Item::Without(option)),
-        Next::Any => None,
-        Next::File => None,
+        Next::Any | Next::File => None,
     }
 }
 
@@ -73,10 +63,7 @@ fn unmet_of<'a>(next: Next<'a>) -> Option<Item<'a>>
 fn add<'a>(items: &mut Vec<Item<'a>>, item: Option<Item<'a>>) -> Result<(), AllocError>
     ensures { OnOk result (map meant items.new.items ≡ map meant items.old.items ++ option_to_list (option_map meant item.entry)) }
 {
-    if let Some(item) = item {
-        items.push(item)?;
-    }
-    Ok(())
+    items.extend(item)
 }
 
 /// The options and files that some words are, in their order. The options of `takes` want a word behind them, whatever that says. `--` makes

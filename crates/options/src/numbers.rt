@@ -7,12 +7,7 @@ ghost use Rattle.std.specs.Str.{all_ascii_digits};
 fn only_digits(bytes: &[u8]) -> bool
     ensures { result ≡ all_ascii_digits bytes.now }
 {
-    for byte in bytes {
-        if !byte.is_ascii_digit() {
-            return false;
-        }
-    }
-    true
+    bytes.iter().all(u8::is_ascii_digit)
 }
 
 /// Whether a word is a number: one digit or more, and nothing else.
@@ -29,8 +24,5 @@ pub fn number_of(word: &str) -> Option<u64>
     if !is_number(word) {
         return None;
     }
-    match word.parse::<u64>() {
-        Ok(number) => Some(number),
-        Err(_) => Some(u64::MAX),
-    }
+    Some(word.parse().unwrap_or(u64::MAX))
 }

@@ -4,5 +4,6 @@
 pub mod kinds;
 pub mod post;
 pub mod posting;
+pub mod printing;
 #[cfg(test)]
 mod tests;

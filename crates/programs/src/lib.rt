@@ -2,5 +2,6 @@
 #![tactic(auto)]
 
 pub mod input;
+pub mod kinds;
 pub mod leading;
 pub mod messages;

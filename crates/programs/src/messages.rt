@@ -1,15 +1,11 @@
-// What a program says of a fault, of a record, and of an input that it refuses.
+// What a program says on standard output and standard error, and the status with which it ends.
 ghost use Rattle.std.specs.Prelude.{◌≡◌, cond, is_ok};
 ghost use Rattle.std.specs.Process.{exit_status};
-ghost use Rattle.programs.specs.Words.{record_name};
 
+use super::kinds::{Ended, Program};
 use maps::kinds::Fault;
-use reading::kinds::{Record, Refusal, Stop};
+use std::fmt;
 use std::process::ExitCode;
-
-/// A program ends without having done its work, and has said why.
-#[derive(Clone, Copy)]
-pub struct Ended;
 
 /// The status of a program that ends so: 0 if it has done its work, and 1 if not.
 pub fn status_of(done: Result<(), Ended>) -> ExitCode
@@ -21,52 +17,27 @@ pub fn status_of(done: Result<(), Ended>) -> ExitCode
     }
 }
 
-/// A fault in words.
-pub fn words_of(fault: Fault) -> &'static str {
-    match fault {
-        Fault::Form => "an unknown kind, a record that is cut, or bytes left over",
-        Fault::Range => "a number out of its range, or a place that isn't there",
-        Fault::Order => "roads not in rising order",
-        Fault::Cost => "a road of cost 0",
-        Fault::Apart => "the map doesn't hang together",
-        Fault::Room => "no room on the posts",
-        Fault::Plan => "a plan that can't be read or doesn't fit the map",
-        Fault::Same => "a change of a road that is so already",
-        Fault::Memory => "no memory",
+impl Program<'_> {
+    /// Says on standard error why the program ends, in one line. Where that can't be written either, nothing is left to say it by.
+    pub fn complain<T: fmt::Display + Drop>(self, why: T) -> Ended {
+        let _ = eprintln!(self.rt; "{}: {why}", self.name);
+        Ended
     }
-}
 
-/// The name of a sort of record.
-pub fn name_of(sort: Record) -> &'static str
-    ensures { result.now ≡ record_name sort }
-{
-    match sort {
-        Record::Header => "header",
-        Record::Road => "road",
-        Record::End => "end",
+    /// Says that no memory is left.
+    pub fn no_memory(self) -> Ended {
+        self.complain("no memory")
     }
-}
 
-fn refuse_input(rt: &HostRuntime, program: &str, refusal: Refusal) -> Ended {
-    let number = refusal.fault.number();
-    let name = name_of(refusal.record);
-    let index = refusal.at.index;
-    let byte = refusal.at.byte;
-    let words = words_of(refusal.fault);
-    let _ = eprintln!(rt; "{program}: fault {number}: {name} {index} at byte {byte}: {words}");
-    Ended
-}
-
-/// Says on standard error why reading stopped, in one line.
-pub fn refuse(rt: &HostRuntime, program: &str, stop: Stop) -> Ended {
-    match stop {
-        Stop::Input(refusal) => refuse_input(rt, program, refusal),
-        Stop::Memory => complain(rt, program, "no memory"),
+    /// Says that a map has a fault, where it is of no record of the input.
+    pub fn blame(self, fault: Fault) -> Ended {
+        self.complain(format_args!("fault {}: {fault}", fault.number()))
     }
-}
 
-/// Says something else on standard error, in one line.
-pub fn complain(rt: &HostRuntime, program: &str, why: &str) -> Ended {
-    let _ = eprintln!(rt; "{program}: {why}");
-    Ended
+    /// Writes a line on standard output.
+    pub fn say<T: fmt::Display + Drop>(self, line: T) -> Result<(), Ended> {
+        self.rt
+            .println(line)
+            .map_err(|_| self.complain("standard output can't be written"))
+    }
 }

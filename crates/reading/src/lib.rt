@@ -2,6 +2,7 @@
 #![tactic(auto)]
 
 pub mod kinds;
+pub mod printing;
 pub mod reader;
 pub mod records;
 pub mod roads;

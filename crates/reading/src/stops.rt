@@ -1,4 +1,4 @@
-// Why reading stopped: from a refusal, or from want of memory.
+// Why reading stopped: as a fault; from a refusal, or from want of memory.
 ghost use Rattle.std.specs.Prelude.{◌≡◌};
 ghost use Rattle.reading.specs.declared.kinds.Stop.TheVariants.{Input, Memory};
 ghost use Rattle.reading.specs.Telling.{fault_of};
@@ -7,12 +7,12 @@ use super::kinds::{Refusal, Stop};
 use maps::kinds::Fault;
 use std::alloc::{AllocError, AllocFailed};
 
-impl Stop {
-    /// The fault for which reading stopped; want of memory is one of its own.
-    pub fn fault(self) -> Fault
-        ensures { result ≡ fault_of self }
-    {
-        match self {
+/// The fault for which reading stopped; want of memory is one of its own.
+impl From<Stop> for Fault {
+    ghost from_gives = { λ stop fault. fault ≡ fault_of stop };
+
+    fn from(stop: Stop) -> Fault {
+        match stop {
             Stop::Input(refusal) => refusal.fault,
             Stop::Memory => Fault::Memory,
         }

@@ -2,24 +2,25 @@
 #![tactic(auto)]
 
 mod tour;
+mod walk;
 
-use programs::input::words;
-use programs::leading::show_leading_map;
-use programs::messages::{Ended, status_of};
+use programs::kinds::{Ended, Program};
+use programs::messages::status_of;
 use std::process::ExitCode;
-use tour::tour;
+use tour::show_tour;
 
 // Says what was read; or after `--landmarks`, walks.
-fn show_or_tour(rt: &HostRuntime) -> Result<(), Ended> {
-    let given = words(rt, "walk")?;
-    if let [first, rest @ ..] = given.as_slice() {
-        if first.as_str() == "--landmarks" {
-            return tour(rt, rest);
-        }
+fn show_or_tour(program: Program<'_>) -> Result<(), Ended> {
+    let given = program.words()?;
+    match given.as_slice() {
+        [first, rest @ ..] if first.as_str() == "--landmarks" => show_tour(program, rest),
+        words => program.show_leading_map(words),
     }
-    show_leading_map(rt, "walk")
 }
 
 fn main(rt: HostRuntime) -> ExitCode {
-    status_of(show_or_tour(&rt))
+    status_of(show_or_tour(Program {
+        rt: &rt,
+        name: "walk",
+    }))
 }

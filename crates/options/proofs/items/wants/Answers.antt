@@ -1,16 +1,17 @@
-use Rattle.std.proofs.Common.{map, sym, ◌∙◌, arith}
-use Rattle.std.proofs.lemmas.List.{at_drop_all}
+use Rattle.std.proofs.Common.{◌≡◌, ℕ, Bool, true, false, cond, ◌||◌, List, [], ◌∷◌, Bor, map, ◌∙◌, ap, refl}
+use Rattle.std.specs.List.{list_any}
+use Rattle.std.specs.Str.{bytes_eq}
 use Rattle.options.specs.Items.{wants_in}
-use Rattle.options.proofs.Sorting.{wants_it, wants_other}
 use Rattle.options.proofs.items.wants.Goals as goal
 
-pub returns-then-eq : goal.returns-then-eq
-returns-then-eq c =
-    sym (wants_it (λ x. x.now) c.args.takes.now c.loop-name.name-index _ c.args.option.now c.eq.result (omega arith) c.eq.ensures c.if-eq.true) ∙ c.loop-name.invariant
+either : (b rest : Bool) → b || rest ≡ cond b true rest
+either true rest = refl
+either false rest = refl
 
-pub loop-name-preserved : goal.loop-name-preserved
-loop-name-preserved c =
-    sym (wants_other (λ x. x.now) c.args.takes.now c.loop-name.name-index _ c.args.option.now c.eq.result (omega arith) c.eq.ensures c.if-eq.false) ∙ c.loop-name.invariant
+-- std's own word for the same
+any_name : (option : List ℕ) (names : List (Bor (List ℕ))) → list_any (λ x. bytes_eq x.now option) names ≡ wants_in (map (λ x. x.now) names) option
+any_name option [] = refl
+any_name option (x ∷ xs) = either (bytes_eq x.now option) (list_any (λ y. bytes_eq y.now option) xs) ∙ ap (cond (bytes_eq x.now option) true) (any_name option xs)
 
 pub returns : goal.returns
-returns c = sym (at_drop_all (λ ys. wants_in (map (λ x. x.now) ys) c.args.option.now) c.args.takes.now c.loop-name.name-index (omega arith)) ∙ c.loop-name.invariant
+returns c = c.contains.ensures.value ∙ any_name c.args.option.now c.args.takes.now

@@ -1,6 +1,6 @@
-use Rattle.std.proofs.Common.{sym, ◌∙◌}
-use Rattle.options.proofs.Large.{too_large}
+use Rattle.std.proofs.Common.{sym, ap, ◌∙◌, Some}
+use Rattle.options.proofs.Large.{highest_at_most}
 use Rattle.options.proofs.numbers.number_of.Goals as goal
 
-pub returns-in-Err : goal.returns-in-Err
-returns-in-Err c = too_large c.args.word.now c.parse.result c.in-Err.field-0 (sym c.is_number.ensures ∙ c.if-not-is_number.false) c.parse.ensures.value.0 c.in-Err.is
+pub returns : goal.returns
+returns c = ap Some c.unwrap_or.ensures ∙ highest_at_most c.args.word.now c.parse.result (sym c.is_number.ensures ∙ c.if-not-is_number.false) c.parse.ensures.value.0

@@ -1,22 +1,17 @@
-use Rattle.std.proofs.Common.{◌≡◌, ◌+◌, Bool, ◌&&◌, get_or, drop, sym, ap, ◌∙◌, arith}
-use Rattle.std.proofs.lemmas.List.{at_drop_more, at_drop_all}
+use Rattle.std.proofs.Common.{◌≡◌, ℕ, List, [], ◌∷◌, ◌&&◌, ◌∙◌, ap, refl, rules, tests}
+use Rattle.std.proofs.lemmas.Iterator.{YieldsList-from_slice}
+use Rattle.std.proofs.lemmas.Iterator.Search.{all_from_yields_List}
 use Rattle.std.specs.Char.{is_ascii_digit}
+use Rattle.std.specs.List.{list_all}
 use Rattle.std.specs.Str.{all_ascii_digits}
 use Rattle.options.proofs.numbers.only_digits.Goals as goal
 
-pub returns-then-not-is_ascii_digit : goal.returns-then-not-is_ascii_digit
-returns-then-not-is_ascii_digit c =
-    let xs = c.args.bytes.now in
-    let i = c.loop-byte.byte-index in
-    let step : all_ascii_digits (drop i xs) ≡ is_ascii_digit (get_or xs i 0) && all_ascii_digits (drop (i + 1) xs) = at_drop_more all_ascii_digits xs i 0 (omega arith) in
-    sym (step ∙ ap (λ (b : Bool). b && all_ascii_digits (drop (i + 1) xs)) (sym c.is_ascii_digit.ensures.value ∙ c.if-not-is_ascii_digit.true)) ∙ c.loop-byte.invariant
-
-pub loop-byte-preserved : goal.loop-byte-preserved
-loop-byte-preserved c =
-    let xs = c.args.bytes.now in
-    let i = c.loop-byte.byte-index in
-    let step : all_ascii_digits (drop i xs) ≡ is_ascii_digit (get_or xs i 0) && all_ascii_digits (drop (i + 1) xs) = at_drop_more all_ascii_digits xs i 0 (omega arith) in
-    sym (step ∙ ap (λ (b : Bool). b && all_ascii_digits (drop (i + 1) xs)) (sym c.is_ascii_digit.ensures.value ∙ c.if-not-is_ascii_digit.false)) ∙ c.loop-byte.invariant
+-- std's own word for the same
+all_digits : (bytes : List ℕ) → list_all is_ascii_digit bytes ≡ all_ascii_digits bytes
+all_digits [] = refl
+all_digits (b ∷ bs) = ap (λ r. is_ascii_digit b && r) (all_digits bs)
 
 pub returns : goal.returns
-returns c = sym (at_drop_all all_ascii_digits c.args.bytes.now c.loop-byte.byte-index (omega arith)) ∙ c.loop-byte.invariant
+returns c =
+    all_from_yields_List is_ascii_digit _ _ c.all.result c.all.ensures.ran (YieldsList-from_slice c.args.bytes.now cc) (λ x b q k. search (rules, tests))
+    ∙ all_digits c.args.bytes.now
