@@ -1,5 +1,6 @@
 -- A map that something else may follow: its end. Assumes nothing.
-use Rattle.std.proofs.Common.{refl, rules}
+use Rattle.std.proofs.Common.{rules}
+use Rattle.std.specs.Result.{result_err}
 use Rattle.std.proofs.lemmas.Result.{err_from_is_err_and}
 use Rattle.reading.proofs.Endings.{end_ok, end_bad}
 use Rattle.documents.specs.Maps.{read_roads, apart}
@@ -12,9 +13,9 @@ returns-in_err-close c =
     let m = c.in_ok-map.map in
     let at = c.roads_at.new.from.at in
     record {
-      told = end_bad charted charted (read_roads c.args.from.now.bytes.now c.args.from.now.at) (λ m p. apart m) at c.close.new.self.at
-          c.roads_at.result m m c.fault_of_whole-apart.result c.close.result
-          c.roads_at.ensures.told c.in_ok-map.was refl c.fault_of_whole-apart.ensures c.close.ensures.value
+      told = end_bad charted (read_roads c.args.from.now.bytes.now c.args.from.now.at) (λ m p. apart m) at c.close.new.self.at
+          c.roads_at.result m (result_err c.check_whole.result) c.close.result
+          c.roads_at.ensures.told c.in_ok-map.was c.check_whole.ensures c.close.ensures.value
           c.in_err-close.was p.1 p.2;
       same = search rules;
     }
@@ -24,9 +25,9 @@ returns c =
     let m = c.in_ok-map.map in
     let at = c.roads_at.new.from.at in
     record {
-      told = end_ok charted charted (read_roads c.args.from.now.bytes.now c.args.from.now.at) (λ m p. apart m) at c.close.new.self.at
-          c.roads_at.result m m c.fault_of_whole-apart.result c.close.result
-          c.roads_at.ensures.told c.in_ok-map.was refl c.fault_of_whole-apart.ensures c.close.ensures.value
-          c.in_ok-close.field-0 c.in_ok-close.was c.close.ensures.at;
+      told = end_ok charted (read_roads c.args.from.now.bytes.now c.args.from.now.at) (λ m p. apart m) at c.close.new.self.at
+          c.roads_at.result m (result_err c.check_whole.result) c.close.result
+          c.roads_at.ensures.told c.in_ok-map.was c.check_whole.ensures c.close.ensures.value
+          c.in_ok-close.was c.close.ensures.at;
       same = search rules;
     }

@@ -13,7 +13,7 @@ pub count_arcs-requires : goal.count_arcs-requires
 count_arcs-requires c =
     let n = c.args.n in
     let roads = vec_items c.args.roads in
-    let none : map_fault n roads ≡ None = ap (map_fault n) (sym c.deref.ensures.value) ∙ sym c.in_default.ensures in
+    let none : map_fault n roads ≡ None = ap (map_fault n) (sym c.deref.ensures.value) ∙ sym c.in_ok-check_roads.ensures in
     let v = map_sound n roads none in
     let e = c.deref-2.ensures.value in
     let long : length c.deref_mut.result.now ≡ n + 1 = c.deref_mut.ensures.len ∙ c.in_ok-starts.ensures.len in
@@ -27,7 +27,7 @@ pub sum_before-arcs-requires : goal.sum_before-arcs-requires
 sum_before-arcs-requires c =
     let n = c.args.n in
     let roads = vec_items c.args.roads in
-    let none : map_fault n roads ≡ None = ap (map_fault n) (sym c.deref.ensures.value) ∙ sym c.in_default.ensures in
+    let none : map_fault n roads ≡ None = ap (map_fault n) (sym c.deref.ensures.value) ∙ sym c.in_ok-check_roads.ensures in
     let v = map_sound n roads none in
     let made : c.in_ok-starts.starts.len ≡ n + 1 = c.in_ok-starts.ensures.len in
     let long : length c.count_arcs.new.starts ≡ n + 1 = c.count_arcs.auto.starts ∙ c.deref_mut.ensures.len ∙ made in
@@ -43,7 +43,7 @@ pub place_arcs-requires : goal.place_arcs-requires
 place_arcs-requires c =
     let n = c.args.n in
     let roads = vec_items c.args.roads in
-    let none : map_fault n roads ≡ None = ap (map_fault n) (sym c.deref.ensures.value) ∙ sym c.in_default.ensures in
+    let none : map_fault n roads ≡ None = ap (map_fault n) (sym c.deref.ensures.value) ∙ sym c.in_ok-check_roads.ensures in
     let v = map_sound n roads none in
     let counts = c.count_arcs.new.starts in
     let made : c.in_ok-starts.starts.len ≡ n + 1 = c.in_ok-starts.ensures.len in
@@ -73,7 +73,7 @@ pub invariant_of-result : goal.invariant_of-result
 invariant_of-result c =
     let n = c.args.n in
     let roads = vec_items c.args.roads in
-    let none : map_fault n roads ≡ None = ap (map_fault n) (sym c.deref.ensures.value) ∙ sym c.in_default.ensures in
+    let none : map_fault n roads ≡ None = ap (map_fault n) (sym c.deref.ensures.value) ∙ sym c.in_ok-check_roads.ensures in
     let counts : List ℕ = c.count_arcs.new.starts in
     let made : c.in_ok-starts.starts.len ≡ n + 1 = c.in_ok-starts.ensures.len in
     let long : length counts ≡ n + 1 = c.count_arcs.auto.starts ∙ c.deref_mut.ensures.len ∙ made in
