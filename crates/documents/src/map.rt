@@ -32,8 +32,7 @@ fn built(heap: Global, n: u16, roads: Vec<Road>) -> Result<RoadMapBuf, Stop>
 fn hangs(map: &RoadMapBuf) -> bool
     ensures { result ≡ hangs_together (map_of map.now.n map.now.roads.items) }
 {
-    let lent = map.map();
-    hangs_together(&lent)
+    hangs_together(&map.map())
 }
 
 // Checks that the map hangs together.

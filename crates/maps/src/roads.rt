@@ -41,6 +41,7 @@ pub fn check_size(n: u16, roads: usize) -> Result<(), Fault>
 }
 
 /// Checks a map of `n` places and these roads; it is refused for its first fault.
+#[tactic(auto, using(crate::proofs::RoadLists::step_good, crate::proofs::RoadLists::step_end, crate::proofs::RoadLists::size_passes))]
 pub fn check_roads(n: u16, roads: &[Road]) -> Result<(), Fault>
     ensures { result_err result ≡ map_fault n roads.now }
 {

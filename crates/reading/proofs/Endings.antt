@@ -28,12 +28,7 @@ pub both_got : {A B C : Type 0} (make : A → B → C) (first : Place → Read A
 both_got make first second at p q a b e f =
     ap (λ z. then z (λ x y. then (second x (fresh y)) (λ v w. Got (make x v) w))) e ∙ ap (λ z. then z (λ v w. Got (make a v) w)) f
 
--- a document that is closed
-closed_ok : {A B : Type 0} (view : B → A) (f : Option Fault) (p q : Place) (v : B) (t : Result (Unit {0}) Refusal) {u : Unit {0}}
-    → t ≡ answer (closed f tt p) → t ≡ Ok u → q ≡ fresh p → Told view (closed f (view v) p) (Ok v) q
-closed_ok view None p q v t says was stood = (refl, λ _. stood)
-closed_ok view (Some f) p q v t says was stood = let z : ◌≡◌ {A = ℕ} 0 1 = cc in absurd (omega arith)
-
+-- a document that is closed with a fault
 closed_bad : {A : Type 0} (f : Option Fault) (p : Place) (a : A) (t : Result (Unit {0}) Refusal) (d : Refusal)
     → t ≡ answer (closed f tt p) → t ≡ Err d → closed f a p ≡ Bad d
 closed_bad None p a t d says was = let z : ◌≡◌ {A = ℕ} 0 1 = cc in absurd (omega arith)
@@ -45,9 +40,6 @@ module _ {A B : Type 0} (view : B → A) (x : Read A) (fault : A → Place → O
     (told : Told view x r p) (was : r ≡ Ok v) (judged : f ≡ fault (view v) p) (says : t ≡ answer (closed f tt p)) where
   read_on : then x (λ a z. closed (fault a z) a z) ≡ closed f (view v) p
   read_on = ap (λ z. then z (λ a y. closed (fault a y) a y)) (told_got view x p r v told was) ∙ ap (λ z. closed z (view v) p) (sym judged)
-
-  pub end_ok : {u : Unit {0}} → t ≡ Ok u → q ≡ fresh p → Told view (then x (λ a z. closed (fault a z) a z)) (Ok v) q
-  end_ok ok stood = subst (λ y. Told view y (Ok v) q) (sym read_on) (closed_ok view f p q v t says ok stood)
 
   pub end_bad : {r' : Result B Stop} {e : Stop} {d : Refusal} → t ≡ Err d → r' ≡ Err e → e ≡ Input d → Told view (then x (λ a z. closed (fault a z) a z)) r' q
   end_bad {r'} {e} {d} err is e-is = told_bad view (then x (λ a z. closed (fault a z) a z)) q (read_on ∙ closed_bad f p (view v) t d says err) is e-is
