@@ -50,11 +50,7 @@ impl<'a> Reader<'a> {
             (λ s. (self.now.at.byte + size ≤ length self.now.bytes.now) × (length s.now ≡ size)
             × (s.now ≡ take size (drop self.now.at.byte self.now.bytes.now))) }
     {
-        if self.left() < size {
-            return None;
-        }
-        let end = self.at.byte + size;
-        Some(&self.bytes[self.at.byte..end])
+        self.bytes[self.at.byte..].get(..size)
     }
 
     /// The refusal of the record that begins here.

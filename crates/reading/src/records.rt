@@ -13,6 +13,7 @@ use std::alloc::Global;
 pub trait Recorded: Copy + Drop {
     ghost shape: { Shape Self };
 
+    // The name and the size are functions: a constant that clauses speak of would be given twice, in code and as a ghost.
     /// The name of the sort.
     fn sort() -> Record
         ensures { result ≡ shape.sort };
