@@ -7,7 +7,7 @@ ghost use Rattle.maps.specs.Roads.{cost_in};
 
 use super::buf::RoadMapBuf;
 use super::kinds::{Fault, Road};
-use super::laying::{count_arcs, place_arcs, sum_before};
+use super::laying::{begin_arcs, place_arcs};
 use super::map::RoadMap;
 use super::roads::check_roads;
 use std::alloc::Global;
@@ -19,8 +19,7 @@ impl RoadMapBuf {
     {
         check_roads(n, &roads)?;
         let mut starts = vec![in heap; 0u32; n as usize + 1]?;
-        count_arcs(&roads, &mut starts);
-        let arcs = sum_before(&mut starts) as usize;
+        let arcs = begin_arcs(&roads, &mut starts) as usize;
         let mut places = vec![in heap; 0u16; arcs]?;
         let mut costs = vec![in heap; 0u16; arcs]?;
         place_arcs(&roads, &mut starts, &mut places, &mut costs);
