@@ -4,14 +4,14 @@ use Rattle.std.proofs.lemmas.Bool.{or_parts, or_from, not-false, le-ltb, ltb-fal
 use Rattle.std.specs.List.{flat_map}
 use Rattle.maps.specs.declared.kinds.Fault.TheVariants.{Form, Range}
 use Rattle.maps.specs.Roads.{Each, SoundRoad, SoundRoads}
-use Rattle.maps.proofs.RoadLists.{road_sound}
+use Rattle.maps.proofs.RoadLists.{road_sound, passed, pass, positive}
 use Rattle.reading.specs.declared.kinds.Place.{Place}
 use Rattle.reading.specs.Reading.{Got, then, one, many, fresh}
 use Rattle.reading.specs.Roads.{road_shape, road_bytes}
 use Rattle.reading.proofs.Fitting.{Fits, Written, one_fits, one_faultless, then_got}
 use Rattle.reading.proofs.Series.{seq_fits, many_each}
 use Rattle.reading.proofs.RoadRecords.{roads_fit}
-use Rattle.reading.proofs.Decoded.{spread_all, word_bytes, bytes_word, passed, pass, positive}
+use Rattle.reading.proofs.Decoded.{spread_all, word_bytes, bytes_word}
 use Rattle.documents.specs.declared.kinds.MapHead.{MapHead}
 use Rattle.documents.specs.declared.kinds.Kind.TheVariants.{Map, Plan, Change, Walk}
 use Rattle.documents.specs.Kinds.{kind_of, is_map}

@@ -1,16 +1,18 @@
 -- What the code reads of a map, step by step, is what is to be read. Assumes nothing.
-use Rattle.std.proofs.Common.{◌≡◌, ℕ, List, None, Ok, Result, sym, ap, ◌∙◌}
+use Rattle.std.proofs.Common.{◌≡◌, ℕ, List, None, Ok, Err, Result, sym, ap, ◌∙◌}
+use Rattle.maps.specs.declared.buf.RoadMapBuf.{RoadMapBuf}
 use Rattle.maps.specs.declared.kinds.Road.{Road}
 use Rattle.reading.specs.declared.kinds.Place.{Place}
 use Rattle.reading.specs.declared.kinds.Refusal.{Refusal}
 use Rattle.reading.specs.declared.kinds.Stop.{Stop}
-use Rattle.reading.specs.Reading.{Got, one, many, fresh}
+use Rattle.reading.specs.Reading.{Read, Got, one, many, fresh}
 use Rattle.reading.specs.Roads.{road_shape}
 use Rattle.reading.specs.Telling.{answer, stands, Told}
-use Rattle.reading.proofs.Endings.{told_got, both_got}
+use Rattle.reading.proofs.Endings.{told_got, told_ok, both_got}
 use Rattle.reading.proofs.Steps.{got}
 use Rattle.documents.specs.declared.kinds.MapHead.{MapHead}
-use Rattle.documents.specs.Maps.{head_shape, read_roads}
+use Rattle.documents.specs.Views.{charted, Built}
+use Rattle.documents.specs.Maps.{Charted, head_shape, read_roads}
 
 -- the first record, and then the roads: b is the input as it was, b' as the reader has it later
 pub roads_got : {V : Type 0} (view : V → List Road) (b b' : List ℕ) (at p p' q : Place) (h : MapHead) (v : V) (r : Result MapHead Refusal) (s : Result V Stop)
@@ -23,3 +25,8 @@ roads_got view b b' at p p' q h v r s was says stood same begun was' told =
     (ap (λ (z : Place). many (one road_shape h.places b) h.roads None z) (sym begun)
     ∙ ap (λ (z : List ℕ). many (one road_shape h.places z) h.roads None p') (sym same)
     ∙ told_got view (many (one road_shape h.places b') h.roads None p') q s v told was')
+
+-- a map that is built tells what was read
+pub told_built : (x : Read Charted) (m : Charted) (q : Place) (r : Result RoadMapBuf Stop) → x ≡ Got m q → Built m r → Told charted x r q
+told_built x m q (Ok b) e h = told_ok charted x b q (e ∙ ap (λ z. Got z q) (sym h))
+told_built x m q (Err d) e h = (rw (e, h) tt, λ _. sym (ap (λ y. stands y q) e))

@@ -1,42 +1,44 @@
 // The kind of a document and the first record of a map: what their bytes mean, and what is wrong with them.
 ghost use Rattle.std.specs.Prelude.{◌≡◌};
+ghost use Rattle.std.specs.Result.{result_err};
 ghost use Rattle.reading.specs.Writing.{Wrote};
-ghost use Rattle.documents.specs.Kinds.{kind_of};
+ghost use Rattle.documents.specs.Kinds.{Decodes};
 ghost use Rattle.documents.specs.Maps.{head_fault, head_shape, head_bytes};
 
-use super::kinds::{Kind, MapHead};
+use super::kinds::{Kind, MapHead, UnknownKind};
 use maps::kinds::Fault;
-use maps::roads::fault_of_size;
+use maps::roads::check_size;
 use reading::kinds::Record;
 use reading::reader::word_at;
 use reading::records::Recorded;
 use reading::writer::Put;
 use std::alloc::AllocError;
 
-impl Kind {
-    /// The kind of document that begins with this byte.
-    pub fn of(byte: u8) -> Option<Kind>
-        ensures { result ≡ kind_of byte }
-    {
+impl TryFrom<u8> for Kind {
+    type Error = UnknownKind;
+
+    ghost try_from_gives = { Decodes };
+
+    fn try_from(byte: u8) -> Result<Kind, UnknownKind> {
         match byte {
-            1 => Some(Kind::Map),
-            2 => Some(Kind::Plan),
-            3 => Some(Kind::Change),
-            4 => Some(Kind::Walk),
-            _ => None,
+            1 => Ok(Kind::Map),
+            2 => Ok(Kind::Plan),
+            3 => Ok(Kind::Change),
+            4 => Ok(Kind::Walk),
+            _ => Err(UnknownKind(byte)),
         }
     }
 }
 
 impl MapHead {
-    /// What is wrong with the first record of a map, if anything; of several faults the lowest.
-    pub fn fault(self) -> Option<Fault>
-        ensures { result ≡ head_fault self }
+    /// Checks the first record of a map; of several faults it is refused for the lowest.
+    pub fn check(self) -> Result<(), Fault>
+        ensures { result_err result ≡ head_fault self }
     {
-        let Some(Kind::Map) = Kind::of(self.kind) else {
-            return Some(Fault::Form);
+        let Ok(Kind::Map) = Kind::try_from(self.kind) else {
+            return Err(Fault::Form);
         };
-        fault_of_size(self.places, self.roads as usize)
+        check_size(self.places, usize::from(self.roads))
     }
 }
 
@@ -59,10 +61,10 @@ impl Recorded for MapHead {
         }
     }
 
-    fn judge(self, _n: u16, _last: Option<MapHead>) -> Option<Fault>
-        ensures { result ≡ head_fault self }
+    fn check(self, _n: u16, _last: Option<MapHead>) -> Result<(), Fault>
+        ensures { result_err result ≡ head_fault self }
     {
-        self.fault()
+        self.check()
     }
 }
 

@@ -1,5 +1,6 @@
 // Map documents, read.
 ghost use Rattle.std.specs.Prelude.{◌≡◌, IfOk, None};
+ghost use Rattle.std.specs.Result.{result_err};
 ghost use Rattle.ways.specs.Ways.{hangs_together};
 ghost use Rattle.maps.specs.Roads.{map_fault, map_of};
 ghost use Rattle.reading.specs.Telling.{Tells, Told};
@@ -31,25 +32,26 @@ fn built(heap: Global, n: u16, roads: Vec<Road>) -> Result<RoadMapBuf, Stop>
 fn hangs(map: &RoadMapBuf) -> bool
     ensures { result ≡ hangs_together (map_of map.now.n map.now.roads.items) }
 {
-    let lent = map.map();
-    hangs_together(&lent)
+    hangs_together(&map.map())
 }
 
-// What is wrong with a map that doesn't hang together.
-fn fault_of_whole(map: &RoadMapBuf) -> Option<Fault>
-    ensures { result ≡ apart (charted map.now) }
+// Checks that the map hangs together.
+fn check_whole(map: &RoadMapBuf) -> Result<(), Fault>
+    ensures { result_err result ≡ apart (charted map.now) }
 {
-    if hangs(map) { None } else { Some(Fault::Apart) }
-}
-
-// What is wrong with a map with which the input has to end: bytes left over come first.
-fn fault_of_last(from: &Reader<'_>, map: &RoadMapBuf) -> Option<Fault>
-    ensures { result ≡ last_fault from.now.bytes.now (charted map.now) from.now.at }
-{
-    if let Some(fault) = from.left_over() {
-        return Some(fault);
+    if hangs(map) {
+        Ok(())
+    } else {
+        Err(Fault::Apart)
     }
-    fault_of_whole(map)
+}
+
+// Checks a map with which the input has to end: bytes left over come first.
+fn check_last(from: &Reader<'_>, map: &RoadMapBuf) -> Result<(), Fault>
+    ensures { result_err result ≡ last_fault from.now.bytes.now (charted map.now) from.now.at }
+{
+    from.check_end()?;
+    check_whole(map)
 }
 
 // The first record and the roads of the map that begins here.
@@ -60,10 +62,10 @@ fn roads_at(heap: Global, from: &mut Reader<'_>) -> Result<RoadMapBuf, Stop>
     let head = read_record::<MapHead>(from, 0, None)?;
     from.begin();
     let roads = read_records::<Road>(heap, from, head.places, head.roads)?;
-    let map = built(heap, head.places, roads)?;
-    Ok(map)
+    built(heap, head.places, roads)
 }
 
+// The two readers below differ in one call. One reader with that check as a closure would be longer than both, since its clauses must speak of any closure.
 /// The map that begins here, where something else may follow it. It is refused at the first record that has a fault, and there for the lowest;
 /// at its end, if it doesn't hang together. It takes time for the roads, and as long as one row.
 pub fn map_at(heap: Global, from: &mut Reader<'_>) -> Result<RoadMapBuf, Stop>
@@ -71,8 +73,8 @@ pub fn map_at(heap: Global, from: &mut Reader<'_>) -> Result<RoadMapBuf, Stop>
     ensures same { from.new.bytes.now ≡ from.old.bytes.now }
 {
     let map = roads_at(heap, from)?;
-    let apart = fault_of_whole(&map);
-    Ok(from.close(apart, map)?)
+    from.close(check_whole(&map))?;
+    Ok(map)
 }
 
 /// The map that begins here and with which the input has to end: bytes left over are refused at its end, before all else there.
@@ -81,8 +83,9 @@ pub fn last_map_at(heap: Global, from: &mut Reader<'_>) -> Result<RoadMapBuf, St
     ensures same { from.new.bytes.now ≡ from.old.bytes.now }
 {
     let map = roads_at(heap, from)?;
-    let fault = fault_of_last(from, &map);
-    Ok(from.close(fault, map)?)
+    let check = check_last(from, &map);
+    from.close(check)?;
+    Ok(map)
 }
 
 /// The map that is the whole of an input. Written again it gives the same bytes.

@@ -4,9 +4,8 @@ ghost use Rattle.reading.specs.Writing.{Wrote};
 ghost use Rattle.documents.specs.Maps.{write_map};
 ghost use Rattle.documents.specs.Views.{charted};
 
-use super::kinds::MapHead;
+use super::kinds::{Kind, MapHead};
 use maps::buf::RoadMapBuf;
-use maps::kinds::Road;
 use reading::writer::{Put, put_all};
 use std::alloc::AllocError;
 
@@ -17,12 +16,13 @@ pub fn write_map(out: &mut Vec<u8>, map: &RoadMapBuf) -> Result<(), AllocError>
     let old = out.len();
     let roads = map.roads();
     let head = MapHead {
-        kind: 1,
+        kind: Kind::Map as u8,
         places: map.len(),
         roads: roads.len() as u16,
     };
     head.put(out)?;
-    if let Err(error) = put_all::<Road>(out, roads) {
+    // An `if let`, and no `inspect_err`: of what its closure borrows nothing is known where there was no error.
+    if let Err(error) = put_all(out, roads) {
         out.truncate(old);
         return Err(error);
     }

@@ -1,12 +1,16 @@
 -- The arcs of one place as parts of the arrays. Assumes nothing.
-use Rattle.std.proofs.Common.{◌≡◌, ℕ, ◌+◌, ◌-◌, ◌<◌, cond, List, [], length, get_or, take, drop, sym, refl, ap, ◌∙◌, arith}
+use Rattle.std.proofs.Common.{◌≡◌, ℕ, ◌+◌, ◌-◌, ◌<◌, ◌≤◌, cond, List, [], length, get_or, take, drop, sym, refl, ap, ◌∙◌, arith}
 use Rattle.std.proofs.lemmas.List.Edits.{length-between, get_or-between}
-use Rattle.std.proofs.lemmas.Bool.{lt-ltb}
+use Rattle.std.proofs.lemmas.Bool.{lt-ltb, le-ltb}
 use Rattle.maps.specs.Arcs.{Arcs, arc_part}
 use Rattle.maps.proofs.Costs.{starts_most}
 
 part_is : (n : ℕ) (starts xs : List ℕ) (a : ℕ) → a < n → arc_part n starts xs a ≡ take (get_or starts (a + 1) 0 - get_or starts a 0) (drop (get_or starts a 0) xs)
 part_is n starts xs a l = ap (λ b. cond b (take (get_or starts (a + 1) 0 - get_or starts a 0) (drop (get_or starts a 0) xs)) []) (lt-ltb a n l)
+
+-- beyond the places there are none
+pub no_part : (n : ℕ) (starts xs : List ℕ) (a : ℕ) → n ≤ a → arc_part n starts xs a ≡ []
+no_part n starts xs a l = ap (λ b. cond b (take (get_or starts (a + 1) 0 - get_or starts a 0) (drop (get_or starts a 0) xs)) []) (le-ltb a n l)
 
 module _ (n : ℕ) (starts places costs : List ℕ) (A : Arcs n starts places costs) (xs : List ℕ) (level : length xs ≡ length places) (a : ℕ) (l : a < n) where
   pub part_length : length (arc_part n starts xs a) ≡ get_or starts (a + 1) 0 - get_or starts a 0

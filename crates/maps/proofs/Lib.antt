@@ -7,5 +7,5 @@ pub mod Counting
 pub mod Filled
 pub mod RoadArcs
 pub mod Laid
-pub mod Halving
+pub mod Searching
 pub mod Views

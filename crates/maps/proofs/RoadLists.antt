@@ -23,18 +23,18 @@ unfolding roads_fault
 step_end n last rs i l = ap (roads_fault n last) (drop_all i rs l)
 
 -- ---- a list without a fault
-passed : (b : Bool) (f : Fault) (o : Option Fault) → cond b (Some f) o ≡ None → (b ≡ false) × (o ≡ None)
+pub passed : (b : Bool) (f : Fault) (o : Option Fault) → cond b (Some f) o ≡ None → (b ≡ false) × (o ≡ None)
 passed true f o e = let z : ◌≡◌ {A = ℕ} 0 1 = cc in absurd (omega arith)
 passed false f o e = (refl, e)
 
-pass : (b : Bool) (f : Fault) (o : Option Fault) → b ≡ false → o ≡ None → cond b (Some f) o ≡ None
+pub pass : (b : Bool) (f : Fault) (o : Option Fault) → b ≡ false → o ≡ None → cond b (Some f) o ≡ None
 pass b f o e h = ap (λ (z : Bool). cond z (Some f) o) e ∙ h
 
 pub or_none : (f g : Option Fault) → or_else f g ≡ None → (f ≡ None) × (g ≡ None)
 or_none None g e = (refl, e)
 or_none (Some f) g e = let z : ◌≡◌ {A = ℕ} 0 1 = cc in absurd (omega arith)
 
-positive : (x : ℕ) → eqb x 0 ≡ false → 0 < x
+pub positive : (x : ℕ) → eqb x 0 ≡ false → 0 < x
 positive x e = let h : x ≡ 0 → ⊥ = eqb-false x 0 e in omega arith
 
 pub road_sound : (n : ℕ) (last : Option Road) (r : Road) → road_fault n last r ≡ None → SoundRoad n last r
@@ -81,12 +81,5 @@ pub size_passes : (n : ℕ) (rs : List Road) → size_fault n (length rs) ≡ No
 size_passes n rs e = ap (λ x. or_else x (roads_fault n None rs)) e
 
 -- ---- the test that there is none
-none_passes : (o : Option Fault) → no_fault o ≡ true → o ≡ None
-none_passes None e = refl
-none_passes (Some f) e = let z : ◌≡◌ {A = ℕ} 0 1 = cc in absurd (omega arith)
-
-pub faultless_none : (n : ℕ) (rs : List Road) → faultless n rs ≡ true → map_fault n rs ≡ None
-faultless_none n rs e = none_passes (map_fault n rs) e
-
 pub none_faultless : (n : ℕ) (rs : List Road) → map_fault n rs ≡ None → faultless n rs ≡ true
 none_faultless n rs e = ap no_fault e

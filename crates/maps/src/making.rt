@@ -1,14 +1,15 @@
 // Making a map of roads, and the map that it lends.
 ghost use Rattle.std.specs.Prelude.{◌≡◌, ℕ};
-ghost use Rattle.maps.specs.Arcs.{map_in, Meaning};
+ghost use Rattle.maps.specs.Arcs.{Meaning};
+ghost use Rattle.maps.specs.Charts.{chart};
 ghost use Rattle.maps.specs.Laid.{Laid};
 ghost use Rattle.maps.specs.Roads.{cost_in};
 
 use super::buf::RoadMapBuf;
 use super::kinds::{Fault, Road};
-use super::laying::{count_arcs, place_arcs, sum_before};
+use super::laying::{begin_arcs, place_arcs};
 use super::map::RoadMap;
-use super::roads::fault_of_map;
+use super::roads::check_roads;
 use std::alloc::Global;
 
 impl RoadMapBuf {
@@ -16,12 +17,9 @@ impl RoadMapBuf {
     pub fn new(heap: Global, n: u16, roads: Vec<Road>) -> Result<RoadMapBuf, Fault>
         ensures { Laid n roads.items result }
     {
-        if let Some(fault) = fault_of_map(n, &roads) {
-            return Err(fault);
-        }
+        check_roads(n, &roads)?;
         let mut starts = vec![in heap; 0u32; n as usize + 1]?;
-        count_arcs(&roads, &mut starts);
-        let arcs = sum_before(&mut starts) as usize;
+        let arcs = begin_arcs(&roads, &mut starts) as usize;
         let mut places = vec![in heap; 0u16; arcs]?;
         let mut costs = vec![in heap; 0u16; arcs]?;
         place_arcs(&roads, &mut starts, &mut places, &mut costs);
@@ -54,8 +52,8 @@ impl RoadMapBuf {
         ensures starts { result.starts.now ≡ self.now.starts.items }
         ensures places { result.places.now ≡ self.now.places.items }
         ensures costs { result.costs.now ≡ self.now.costs.items }
-        ensures same { (a e : ℕ) → (map_in result.n result.starts.now result.places.now result.costs.now).cost a e ≡ cost_in self.now.roads.items a e }
-        ensures means { Meaning (map_in result.n result.starts.now result.places.now result.costs.now) }
+        ensures same { (a e : ℕ) → (chart result).cost a e ≡ cost_in self.now.roads.items a e }
+        ensures means { Meaning (chart result) }
     {
         RoadMap {
             n: self.n as usize,

@@ -1,5 +1,6 @@
 // What is wrong with a road, and with a list of roads.
 ghost use Rattle.std.specs.Prelude.{◌≡◌, length};
+ghost use Rattle.std.specs.Result.{result_err};
 ghost use Rattle.maps.specs.Roads.{rises, road_fault, size_fault, map_fault};
 
 use super::kinds::{Fault, Road};
@@ -9,53 +10,46 @@ impl Road {
     pub fn rises(self, last: Option<Road>) -> bool
         ensures { result ≡ rises last self }
     {
-        match last {
-            None => true,
-            Some(before) => before.from < self.from
-                || (before.from == self.from && before.to < self.to),
-        }
+        last.is_none_or(|before| (before.from, before.to) < (self.from, self.to))
     }
 
-    /// What is wrong with the road in a map of `n` places after the road `last`, if anything; of several faults the lowest.
-    pub fn fault(self, n: u16, last: Option<Road>) -> Option<Fault>
-        ensures { result ≡ road_fault n last self }
+    /// Checks the road in a map of `n` places after the road `last`; of several faults it is refused for the lowest.
+    pub fn check(self, n: u16, last: Option<Road>) -> Result<(), Fault>
+        ensures { result_err result ≡ road_fault n last self }
     {
         if n <= self.from || n <= self.to || self.to <= self.from {
-            return Some(Fault::Range);
+            return Err(Fault::Range);
         }
         if !self.rises(last) {
-            return Some(Fault::Order);
+            return Err(Fault::Order);
         }
         if self.cost == 0 {
-            return Some(Fault::Cost);
+            return Err(Fault::Cost);
         }
-        None
+        Ok(())
     }
 }
 
-/// What is wrong with the size of a map of `n` places and so many roads, if anything.
-pub fn fault_of_size(n: u16, roads: usize) -> Option<Fault>
-    ensures { result ≡ size_fault n roads }
+/// Checks the size of a map: `n` places and so many roads.
+pub fn check_size(n: u16, roads: usize) -> Result<(), Fault>
+    ensures { result_err result ≡ size_fault n roads }
 {
     if n == 0 || n > 512 || roads > 4096 {
-        return Some(Fault::Range);
+        return Err(Fault::Range);
     }
-    None
+    Ok(())
 }
 
-/// The first fault of a map of `n` places and these roads, if it has one.
-pub fn fault_of_map(n: u16, roads: &[Road]) -> Option<Fault>
-    ensures { result ≡ map_fault n roads.now }
+/// Checks a map of `n` places and these roads; it is refused for its first fault.
+#[tactic(auto, using(crate::proofs::RoadLists::step_good, crate::proofs::RoadLists::step_end, crate::proofs::RoadLists::size_passes))]
+pub fn check_roads(n: u16, roads: &[Road]) -> Result<(), Fault>
+    ensures { result_err result ≡ map_fault n roads.now }
 {
-    if let Some(fault) = fault_of_size(n, roads.len()) {
-        return Some(fault);
-    }
+    check_size(n, roads.len())?;
     let mut last = None;
     for road in roads {
-        if let Some(fault) = road.fault(n, last) {
-            return Some(fault);
-        }
+        road.check(n, last)?;
         last = Some(*road);
     }
-    None
+    Ok(())
 }

@@ -1,8 +1,6 @@
--- Bytes and the numbers in them, and chains of tests. Assumes nothing.
-use Rattle.std.proofs.Common.{◌≡◌, ℕ, zero, suc, ◌+◌, ◌*◌, ◌/◌, ◌%◌, ◌<◌, Bool, true, false, cond, eqb, List, [], ◌∷◌, ◌++◌, length, get_or, drop, Some, None, Option, sym, refl, ap, ◌∙◌, arith}
-use Rattle.std.proofs.lemmas.Bool.{eqb-false}
+-- Bytes and the numbers in them. Assumes nothing.
+use Rattle.std.proofs.Common.{◌≡◌, ℕ, zero, suc, ◌+◌, ◌*◌, ◌/◌, ◌%◌, ◌<◌, List, [], ◌∷◌, ◌++◌, length, get_or, drop, sym, ap, ◌∙◌, arith}
 use Rattle.std.proofs.lemmas.List.{drop_all, drop_more}
-use Rattle.maps.specs.declared.kinds.Fault.{Fault}
 use Rattle.reading.specs.Reading.{bytes_of}
 
 -- a list of known length, byte by byte
@@ -26,14 +24,3 @@ bytes_word x y rest l m =
     let p : (x * 256 + y) / 256 ≡ x = omega arith in
     let q : (x * 256 + y) % 256 ≡ y = omega arith in
     ap (λ z. z ∷ (x * 256 + y) % 256 ∷ rest) p ∙ ap (λ z. x ∷ z ∷ rest) q
-
--- a test that passes, and the tests after it
-pub passed : (b : Bool) (f : Fault) (o : Option Fault) → cond b (Some f) o ≡ None → (b ≡ false) × (o ≡ None)
-passed true f o e = let z : ◌≡◌ {A = ℕ} 0 1 = cc in absurd (omega arith)
-passed false f o e = (refl, e)
-
-pub pass : (b : Bool) (f : Fault) (o : Option Fault) → b ≡ false → o ≡ None → cond b (Some f) o ≡ None
-pass b f o e h = ap (λ (z : Bool). cond z (Some f) o) e ∙ h
-
-pub positive : (x : ℕ) → eqb x 0 ≡ false → 0 < x
-positive x e = let h : x ≡ 0 → ⊥ = eqb-false x 0 e in omega arith

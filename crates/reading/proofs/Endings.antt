@@ -28,26 +28,18 @@ pub both_got : {A B C : Type 0} (make : A → B → C) (first : Place → Read A
 both_got make first second at p q a b e f =
     ap (λ z. then z (λ x y. then (second x (fresh y)) (λ v w. Got (make x v) w))) e ∙ ap (λ z. then z (λ v w. Got (make a v) w)) f
 
--- a document that is closed, with a value that holds the same
-closed_ok : {A C : Type 0} (seen : C → A) (f : Option Fault) (p q : Place) (a : A) (w u : C) (t : Result C Refusal)
-    → seen w ≡ a → t ≡ answer (closed f w p) → t ≡ Ok u → q ≡ fresh p → Told seen (closed f a p) (Ok u) q
-closed_ok seen None p q a w u t holds says was stood = let z : u ≡ w = cc in (ap seen z ∙ holds, λ _. stood)
-closed_ok seen (Some f) p q a w u t holds says was stood = let z : ◌≡◌ {A = ℕ} 0 1 = cc in absurd (omega arith)
+-- a document that is closed with a fault
+closed_bad : {A : Type 0} (f : Option Fault) (p : Place) (a : A) (t : Result (Unit {0}) Refusal) (d : Refusal)
+    → t ≡ answer (closed f tt p) → t ≡ Err d → closed f a p ≡ Bad d
+closed_bad None p a t d says was = let z : ◌≡◌ {A = ℕ} 0 1 = cc in absurd (omega arith)
+closed_bad (Some f) p a t d says was = cc
 
-closed_bad : {A C : Type 0} (f : Option Fault) (p : Place) (a : A) (w : C) (t : Result C Refusal) (d : Refusal)
-    → t ≡ answer (closed f w p) → t ≡ Err d → closed f a p ≡ Bad d
-closed_bad None p a w t d says was = let z : ◌≡◌ {A = ℕ} 0 1 = cc in absurd (omega arith)
-closed_bad (Some f) p a w t d says was = cc
-
--- A reader told r and stands at p; the value w that holds the same was then closed, with the fault f.
-module _ {A B C : Type 0} (view : B → A) (seen : C → A) (x : Read A) (fault : A → Place → Option Fault) (p q : Place) (r : Result B Stop) (v : B) (w : C)
-    (f : Option Fault) (t : Result C Refusal)
-    (told : Told view x r p) (was : r ≡ Ok v) (holds : seen w ≡ view v) (judged : f ≡ fault (view v) p) (says : t ≡ answer (closed f w p)) where
+-- A reader told r, of the value v, and stands at p. Then the document was closed, with the fault f if there is one.
+module _ {A B : Type 0} (view : B → A) (x : Read A) (fault : A → Place → Option Fault) (p q : Place) (r : Result B Stop) (v : B)
+    (f : Option Fault) (t : Result (Unit {0}) Refusal)
+    (told : Told view x r p) (was : r ≡ Ok v) (judged : f ≡ fault (view v) p) (says : t ≡ answer (closed f tt p)) where
   read_on : then x (λ a z. closed (fault a z) a z) ≡ closed f (view v) p
   read_on = ap (λ z. then z (λ a y. closed (fault a y) a y)) (told_got view x p r v told was) ∙ ap (λ z. closed z (view v) p) (sym judged)
 
-  pub end_ok : (u : C) → t ≡ Ok u → q ≡ fresh p → Told seen (then x (λ a z. closed (fault a z) a z)) (Ok u) q
-  end_ok u ok stood = subst (λ y. Told seen y (Ok u) q) (sym read_on) (closed_ok seen f p q (view v) w u t holds says ok stood)
-
-  pub end_bad : {r' : Result C Stop} {e : Stop} {d : Refusal} → t ≡ Err d → r' ≡ Err e → e ≡ Input d → Told seen (then x (λ a z. closed (fault a z) a z)) r' q
-  end_bad {r'} {e} {d} err is e-is = told_bad seen (then x (λ a z. closed (fault a z) a z)) q (read_on ∙ closed_bad f p (view v) w t d says err) is e-is
+  pub end_bad : {r' : Result B Stop} {e : Stop} {d : Refusal} → t ≡ Err d → r' ≡ Err e → e ≡ Input d → Told view (then x (λ a z. closed (fault a z) a z)) r' q
+  end_bad {r'} {e} {d} err is e-is = told_bad view (then x (λ a z. closed (fault a z) a z)) q (read_on ∙ closed_bad f p (view v) t d says err) is e-is

@@ -1,7 +1,8 @@
 // The reader: an input, and the place where it is read on.
-ghost use Rattle.std.specs.Prelude.{◌≡◌, ℕ, ◌+◌, ◌-◌, ◌*◌, ◌<◌, ◌≤◌, length, take, drop, MatchOption};
+ghost use Rattle.std.specs.Prelude.{◌≡◌, ℕ, ◌+◌, ◌-◌, ◌*◌, ◌<◌, ◌≤◌, length, take, drop, if◌then◌else◌, is_ok, MatchOption};
+ghost use Rattle.std.specs.Result.{result_err};
 ghost use Rattle.reading.specs.Reading.{start, after, fresh, judged, closed, left_over, word};
-ghost use Rattle.reading.specs.Telling.{answer, stands};
+ghost use Rattle.reading.specs.Telling.{answer};
 
 use super::kinds::{Place, Record, Refusal};
 use maps::kinds::Fault;
@@ -49,20 +50,16 @@ impl<'a> Reader<'a> {
             (λ s. (self.now.at.byte + size ≤ length self.now.bytes.now) × (length s.now ≡ size)
             × (s.now ≡ take size (drop self.now.at.byte self.now.bytes.now))) }
     {
-        if self.left() < size {
-            return None;
-        }
-        let end = self.at.byte + size;
-        Some(&self.bytes[self.at.byte..end])
+        self.bytes[self.at.byte..].get(..size)
     }
 
     /// The refusal of the record that begins here.
-    pub fn refusal(&self, fault: Fault, record: Record) -> Refusal
-        ensures { result ≡ (record { fault = fault; «record» = «record»; at = self.now.at }) }
+    pub fn refusal(&self, fault: Fault, sort: Record) -> Refusal
+        ensures { result ≡ (record { fault = fault; «record» = sort; at = self.now.at }) }
     {
         Refusal {
             fault,
-            record,
+            record: sort,
             at: self.at,
         }
     }
@@ -75,52 +72,54 @@ impl<'a> Reader<'a> {
         self.at.index = 0;
     }
 
-    /// Passes a record of `size` bytes with its value, unless it has a fault.
-    pub fn pass<T: Drop>(
+    /// Passes a record of `size` bytes, unless its check found a fault.
+    pub fn pass(
         &mut self,
-        record: Record,
+        sort: Record,
         size: usize,
-        fault: Option<Fault>,
-        value: T,
-    ) -> Result<T, Refusal>
+        check: Result<(), Fault>,
+    ) -> Result<(), Refusal>
         requires { (0 < size) × (self.old.at.byte + size ≤ length self.old.bytes.now) }
-        ensures value { result ≡ answer (judged fault «record» value self.old.at (after self.old.at size)) }
-        ensures at { self.new.at ≡ stands (judged fault «record» value self.old.at (after self.old.at size)) self.old.at }
+        ensures value { result ≡ answer (judged (result_err check) sort tt self.old.at (after self.old.at size)) }
+        ensures at { self.new.at ≡ (if is_ok check then after self.old.at size else self.old.at) }
         ensures same { self.new.bytes.now ≡ self.old.bytes.now }
     {
-        match fault {
-            Some(fault) => Err(self.refusal(fault, record)),
-            None => {
-                self.at = Place {
-                    index: self.at.index + 1,
-                    byte: self.at.byte + size,
-                };
-                Ok(value)
-            }
-        }
+        let at = self.at;
+        check.map_err(|fault| Refusal {
+            fault,
+            record: sort,
+            at,
+        })?;
+        self.at = Place {
+            index: self.at.index + 1,
+            byte: self.at.byte + size,
+        };
+        Ok(())
     }
 
-    /// What is wrong with bytes that are left over, where there are any.
-    pub fn left_over(&self) -> Option<Fault>
-        ensures { result ≡ left_over self.now.bytes.now self.now.at }
+    /// Checks that no bytes are left over.
+    pub fn check_end(&self) -> Result<(), Fault>
+        ensures { result_err result ≡ left_over self.now.bytes.now self.now.at }
     {
         if self.at.byte == self.bytes.len() {
-            None
+            Ok(())
         } else {
-            Some(Fault::Form)
+            Err(Fault::Form)
         }
     }
 
-    /// Passes the end of a document with its value, unless the whole has a fault.
-    pub fn close<T: Drop>(&mut self, fault: Option<Fault>, value: T) -> Result<T, Refusal>
-        ensures value { result ≡ answer (closed fault value self.old.at) }
+    /// Passes the end of a document, unless the check of the whole found a fault.
+    pub fn close(&mut self, check: Result<(), Fault>) -> Result<(), Refusal>
+        ensures value { result ≡ answer (closed (result_err check) tt self.old.at) }
         ensures at { self.new.at ≡ fresh self.old.at }
         ensures same { self.new.bytes.now ≡ self.old.bytes.now }
     {
         self.begin();
-        match fault {
-            Some(fault) => Err(self.refusal(fault, Record::End)),
-            None => Ok(value),
-        }
+        let at = self.at;
+        check.map_err(|fault| Refusal {
+            fault,
+            record: Record::End,
+            at,
+        })
     }
 }

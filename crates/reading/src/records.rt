@@ -1,5 +1,6 @@
 // Records of one sort, read one after another.
 ghost use Rattle.std.specs.Prelude.{◌≡◌, ℕ, ◌<◌, length, None, vec_items};
+ghost use Rattle.std.specs.Result.{result_err};
 ghost use Rattle.reading.specs.Reading.{Shape, one, many};
 ghost use Rattle.reading.specs.Telling.{answer, stands, Told};
 
@@ -12,6 +13,7 @@ use std::alloc::Global;
 pub trait Recorded: Copy + Drop {
     ghost shape: { Shape Self };
 
+    // The name and the size are functions: a constant that clauses speak of would be given twice, in code and as a ghost.
     /// The name of the sort.
     fn sort() -> Record
         ensures { result ≡ shape.sort };
@@ -25,9 +27,9 @@ pub trait Recorded: Copy + Drop {
         requires { length part.now ≡ shape.size }
         ensures { result ≡ shape.value part.now };
 
-    /// What is wrong with the record in a map of `n` places, after the record `last` of its sort.
-    fn judge(self, n: u16, last: Option<Self>) -> Option<Fault>
-        ensures { result ≡ shape.fault n last self };
+    /// Checks the record in a map of `n` places, after the record `last` of its sort.
+    fn check(self, n: u16, last: Option<Self>) -> Result<(), Fault>
+        ensures { result_err result ≡ shape.fault n last self };
 }
 
 /// The next record, in a map of `n` places and after the record `last` of its sort.
@@ -44,7 +46,8 @@ pub fn read_record<T: Recorded>(
         return Err(from.refusal(Fault::Form, T::sort()));
     };
     let value = T::decode(part);
-    from.pass(T::sort(), T::size(), value.judge(n, last), value)
+    from.pass(T::sort(), T::size(), value.check(n, last))?;
+    Ok(value)
 }
 
 /// The next `count` records of one sort, in a map of `n` places. For want of memory nothing is kept.

@@ -1,5 +1,6 @@
 // Roads as records.
 ghost use Rattle.std.specs.Prelude.{◌≡◌};
+ghost use Rattle.std.specs.Result.{result_err};
 ghost use Rattle.maps.specs.Roads.{road_fault};
 ghost use Rattle.reading.specs.Roads.{road_shape, road_bytes};
 ghost use Rattle.reading.specs.Writing.{Wrote};
@@ -30,10 +31,10 @@ impl Recorded for Road {
         }
     }
 
-    fn judge(self, n: u16, last: Option<Road>) -> Option<Fault>
-        ensures { result ≡ road_fault n last self }
+    fn check(self, n: u16, last: Option<Road>) -> Result<(), Fault>
+        ensures { result_err result ≡ road_fault n last self }
     {
-        self.fault(n, last)
+        self.check(n, last)
     }
 }
 

@@ -28,7 +28,8 @@ pub fn put_all<T: Put>(out: &mut Vec<u8>, items: &[T]) -> Result<(), AllocError>
 {
     let old = out.len();
     for item in items {
-        if let Err(error) = (*item).put(out) {
+        // An `if let`, and no `inspect_err`: of what its closure borrows nothing is known where there was no error.
+        if let Err(error) = item.put(out) {
             out.truncate(old);
             return Err(error);
         }

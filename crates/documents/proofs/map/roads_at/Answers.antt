@@ -1,12 +1,9 @@
 -- The roads that are read are those of a map without a fault, which can be built. Assumes nothing.
-use Rattle.std.proofs.Common.{vec_items, sym, ap, ◌∙◌, rules}
+use Rattle.std.proofs.Common.{vec_items, ◌∙◌}
 use Rattle.maps.proofs.RoadLists.{sound_map}
-use Rattle.reading.specs.Reading.{Got}
-use Rattle.reading.proofs.Endings.{told_ok}
-use Rattle.documents.specs.Maps.{Charted, read_roads}
-use Rattle.documents.specs.Views.{charted}
+use Rattle.documents.specs.Maps.{read_roads}
 use Rattle.documents.proofs.Charts.{chart_sound}
-use Rattle.documents.proofs.ChartsRead.{roads_got}
+use Rattle.documents.proofs.ChartsRead.{roads_got, told_built}
 use Rattle.documents.proofs.map.roads_at.Goals as goal
 
 pub built-requires : goal.built-requires
@@ -22,18 +19,15 @@ built-requires c =
     c.in_ok-head.was c.read_record.ensures.value c.read_record.ensures.at (c.begin.ensures.same ∙ c.read_record.ensures.same) c.begin.ensures.at
     c.in_ok-roads.was c.read_records.ensures.told))
 
-pub returns : goal.returns
-returns c =
+pub returns-clause-told : goal.returns-clause-told
+returns-clause-told c =
     let h = c.in_ok-head.head in
     let b = c.args.from.now.bytes.now in
     let at = c.args.from.now.at in
     let q = c.read_records.new.from.at in
-    record {
-      told = told_ok charted (read_roads b at) c.in_ok-map.map q
-          (roads_got vec_items b c.begin.new.self.bytes.now at c.read_record.new.from.at c.begin.new.self.at q h c.in_ok-roads.roads
-          c.read_record.result c.read_records.result
-          c.in_ok-head.was c.read_record.ensures.value c.read_record.ensures.at (c.begin.ensures.same ∙ c.read_record.ensures.same) c.begin.ensures.at
-          c.in_ok-roads.was c.read_records.ensures.told
-          ∙ ap (λ (z : Charted). Got z q) (sym c.in_ok-map.ensures));
-      same = search rules;
-    }
+    told_built (read_roads b at) (record { places = h.places; roads = vec_items c.in_ok-roads.roads }) q c.built.result
+    (roads_got vec_items b c.begin.new.self.bytes.now at c.read_record.new.from.at c.begin.new.self.at q h c.in_ok-roads.roads
+    c.read_record.result c.read_records.result
+    c.in_ok-head.was c.read_record.ensures.value c.read_record.ensures.at (c.begin.ensures.same ∙ c.read_record.ensures.same) c.begin.ensures.at
+    c.in_ok-roads.was c.read_records.ensures.told)
+    c.built.ensures

@@ -5,17 +5,13 @@ use Rattle.reading.specs.Reading.{one, many}
 use Rattle.reading.proofs.Steps.{turn, stopped, told_bad}
 use Rattle.reading.proofs.records.read_records.Goals as goal
 
-pub returns-in_err-item : goal.returns-in_err-item
-returns-in_err-item g c =
+pub returns-in_err-item-clause-told : goal.returns-in_err-item-clause-told
+returns-in_err-item-clause-told g c =
     let p = err_from_is_err_and c.from_residual.result c.from_residual.ensures.1 in
-    let whole = many (one g.T.Recorded.shape c.args.n c.args.from.now.bytes.now) c.args.count None c.args.from.now.at in
-    record {
-      told = told_bad vec_items whole _
-          (stopped (one g.T.Recorded.shape c.args.n) c.loop-i.last c.loop-i.from.at (vec_items c.loop-i.items) {r = c.read_record.result} (omega arith) c.loop-i.invariant.0 c.loop-i.invariant.1
-          c.in_err-item.was c.read_record.ensures.value)
-          p.1 p.2;
-      same = search rules;
-    }
+    told_bad vec_items (many (one g.T.Recorded.shape c.args.n c.args.from.now.bytes.now) c.args.count None c.args.from.now.at) _
+    (stopped (one g.T.Recorded.shape c.args.n) c.loop-i.last c.loop-i.from.at (vec_items c.loop-i.items) {r = c.read_record.result} (omega arith) c.loop-i.invariant.0 c.loop-i.invariant.1
+    c.in_err-item.was c.read_record.ensures.value)
+    p.1 p.2
 
 pub loop-i-preserved : goal.loop-i-preserved
 loop-i-preserved g c = (

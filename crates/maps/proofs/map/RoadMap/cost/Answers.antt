@@ -1,59 +1,30 @@
-use Rattle.std.proofs.Common.{◌+◌, ◌-◌, ◌/◌, sym, arith}
-use Rattle.maps.proofs.Costs.{past_row, past_column}
-use Rattle.maps.proofs.Halving.{halving_start, halving_inside, halving_up, halving_down, halving_found, halving_end}
+use Rattle.std.proofs.Common.{List, Result, MatchResult, ℕ, get_or, rules, ◌≡◌}
+use Rattle.std.proofs.lemmas.List.Sorted.{answers_always}
+use Rattle.std.proofs.lemmas.Result.{MatchResult-at_ok, MatchResult-at_err}
+use Rattle.std.specs.List.Sorted.{IsBinarySearchResult}
+use Rattle.std.specs.Ordering.{nat_cmp}
+use Rattle.maps.specs.Charts.{chart}
+use Rattle.maps.specs.Arcs.{arc_part}
+use Rattle.maps.specs.declared.map.RoadMap.{RoadMap}
 use Rattle.maps.proofs.Views.{view_arcs}
+use Rattle.maps.proofs.Searching.{searched_cost}
 use Rattle.maps.proofs.map.RoadMap.cost.Goals as goal
-use Rattle.maps.proofs.map.RoadMap.cost.Goals.{then-a-self-via-then-a-self, then-a-self-via-else-a-self+then-e-self}
 
-pub returns-then-a-self : goal.returns-then-a-self
-returns-then-a-self c =
+-- the same of arcs that are lent
+lent_cost : (m : RoadMap) (a e : ℕ) (places costs : List ℕ) (r : Result ℕ ℕ) → places ≡ arc_part m.n m.starts.now m.places.now a → costs ≡ arc_part m.n m.starts.now m.costs.now a
+    → IsBinarySearchResult (λ y. nat_cmp y e) places r → MatchResult r (λ k. get_or costs k 0 ≡ (chart m).cost a e) (λ _. 0 ≡ (chart m).cost a e)
+lent_cost m a e places costs r p q h = rw q (searched_cost m.n m.starts.now m.places.now m.costs.now (view_arcs m) a e r (rw p at h))
+
+pub returns-in-Ok : goal.returns-in-Ok
+returns-in-Ok c =
     let m = c.args.self.now in
-    elim c.then-a-self.branch [
-      | then-a-self-via-then-a-self w ↦ sym (past_row m.n m.starts.now m.places.now m.costs.now (view_arcs m) c.args.a c.args.e w.if-a-self.true)
-      | then-a-self-via-else-a-self+then-e-self w ↦ sym (past_column m.n m.starts.now m.places.now m.costs.now (view_arcs m) c.args.a c.args.e w.if-e-self.true)
-    ]
+    let by = c.binary_search_by_key.ensures.position (λ y. y) (answers_always _ _ _ (λ f a r g called. search rules)) in
+    MatchResult-at_ok (λ k. get_or c.arcs.result.costs.now k 0 ≡ (chart m).cost c.args.a c.args.e) (λ _. 0 ≡ (chart m).cost c.args.a c.args.e) c.in-Ok.k c.in-Ok.is
+    (lent_cost m c.args.a c.args.e c.arcs.result.places.now c.arcs.result.costs.now c.binary_search_by_key.result c.arcs.ensures.places c.arcs.ensures.costs by)
 
-pub bounds-self-a : goal.bounds-self-a
-bounds-self-a c = let l = (view_arcs c.args.self.now).long in omega arith
-
-pub bounds-self-a-2 : goal.bounds-self-a-2
-bounds-self-a-2 c = let l = (view_arcs c.args.self.now).long in omega arith
-
-pub loop-low-init : goal.loop-low-init
-loop-low-init c = let m = c.args.self.now in halving_start m.n m.starts.now m.places.now m.costs.now (view_arcs m) c.args.a c.args.e (omega arith)
-
-pub bounds-self-middle : goal.bounds-self-middle
-bounds-self-middle c =
+pub returns-in-Err : goal.returns-in-Err
+returns-in-Err c =
     let m = c.args.self.now in
-    let k = c.loop-low.low + (c.loop-low.high - c.loop-low.low) / 2 in
-    halving_inside m.n m.starts.now m.places.now m.costs.now (view_arcs m) c.args.a c.args.e (omega arith) c.loop-low.low c.loop-low.high c.loop-low.invariant k (omega arith)
-
-pub bounds-self-middle-then-place-e : goal.bounds-self-middle-then-place-e
-bounds-self-middle-then-place-e c =
-    let m = c.args.self.now in
-    let k = c.loop-low.low + (c.loop-low.high - c.loop-low.low) / 2 in
-    omega (arith, halving_inside m.n m.starts.now m.places.now m.costs.now (view_arcs m) c.args.a c.args.e (omega arith) c.loop-low.low c.loop-low.high c.loop-low.invariant k (omega arith), (view_arcs m).level)
-
-pub returns-then-place-e : goal.returns-then-place-e
-returns-then-place-e c =
-    let m = c.args.self.now in
-    let k = c.loop-low.low + (c.loop-low.high - c.loop-low.low) / 2 in
-    halving_found m.n m.starts.now m.places.now m.costs.now (view_arcs m) c.args.a c.args.e (omega arith) c.loop-low.low c.loop-low.high c.loop-low.invariant k (omega arith) (omega arith) c.if-place-e.true
-
-pub loop-low-preserved-then-place-e-2 : goal.loop-low-preserved-then-place-e-2
-loop-low-preserved-then-place-e-2 c =
-    let m = c.args.self.now in
-    let k = c.loop-low.low + (c.loop-low.high - c.loop-low.low) / 2 in
-    halving_up m.n m.starts.now m.places.now m.costs.now (view_arcs m) c.args.a c.args.e (omega arith) c.loop-low.low c.loop-low.high c.loop-low.invariant k (omega arith) (omega arith) c.if-place-e-2.true
-
-pub loop-low-preserved : goal.loop-low-preserved
-loop-low-preserved c =
-    let m = c.args.self.now in
-    let k = c.loop-low.low + (c.loop-low.high - c.loop-low.low) / 2 in
-    let apart = c.if-place-e.false in
-    halving_down m.n m.starts.now m.places.now m.costs.now (view_arcs m) c.args.a c.args.e (omega arith) c.loop-low.low c.loop-low.high c.loop-low.invariant k (omega arith) (omega arith) (omega arith)
-
-pub returns : goal.returns
-returns c =
-    let m = c.args.self.now in
-    halving_end m.n m.starts.now m.places.now m.costs.now (view_arcs m) c.args.a c.args.e (omega arith) c.loop-low.low c.loop-low.high c.loop-low.invariant (omega arith) (omega arith)
+    let by = c.binary_search_by_key.ensures.position (λ y. y) (answers_always _ _ _ (λ f a r g called. search rules)) in
+    MatchResult-at_err (λ k. get_or c.arcs.result.costs.now k 0 ≡ (chart m).cost c.args.a c.args.e) (λ _. 0 ≡ (chart m).cost c.args.a c.args.e) c.in-Err.field-0 c.in-Err.is
+    (lent_cost m c.args.a c.args.e c.arcs.result.places.now c.arcs.result.costs.now c.binary_search_by_key.result c.arcs.ensures.places c.arcs.ensures.costs by)

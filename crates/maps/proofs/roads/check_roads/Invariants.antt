@@ -1,6 +1,6 @@
 use Rattle.std.proofs.Common.{◌≡◌, drop, None}
 use Rattle.maps.specs.Roads.{roads_fault}
-use Rattle.maps.proofs.roads.fault_of_map.Given as goal
+use Rattle.maps.proofs.roads.check_roads.Given as goal
 
 -- what is left has the first fault of the whole
 abbrev pub invariant-loop-road : goal.invariant-loop-road
