@@ -1,5 +1,5 @@
 -- Following the arcs of a place one after the other. Assumes nothing.
-use Rattle.std.proofs.Common.{◌≡◌, ℕ, ◌+◌, ◌<◌, ◌≤◌, ◌⊎◌, List, length, get_or, set, sym, refl, ap, ◌∙◌, inl, inr, arith, get_or-set_other, get_or-set_same}
+use Rattle.std.proofs.Common.{◌≡◌, ℕ, ◌+◌, ◌<◌, ◌≤◌, ◌⊎◌, List, length, get_or, set, sym, refl, ap, ◌∙◌, subst, inl, inr, arith, get_or-set_other, get_or-set_same}
 use Rattle.std.proofs.lemmas.Bool.{cases_eq}
 use Rattle.distances.specs.Keys.{leaf, key_of, Moved}
 use Rattle.distances.specs.Steps.{Stays, Nears, Followed}
@@ -11,16 +11,18 @@ module _ (n : ℕ) (places costs : List ℕ) (away i : ℕ) (before after keys k
   wider : (a : ℕ) → a < n → Stays n before after keys keys' a ⊎ Nears n places costs away (i + 1) before after keys' a
   wider a l = elim (o.way a l) [ inl p ↦ inl p | inr p ↦ inr (p.0, omega (arith, p.1), p.2, p.3, p.4, p.5) ]
 
-  -- an arc by which its place gets no closer
-  pub followed_keeps : get_or after (get_or places i 0) 0 ≤ get_or costs i 0 + away → Followed n places costs away (i + 1) before after keys keys'
-  followed_keeps h = record {
+  keeps : get_or after (get_or places i 0) 0 ≤ get_or costs i 0 + away → Followed n places costs away (i + 1) before after keys keys'
+  keeps h = record {
     road = λ k l. elim (cases_eq k i) [ inl p ↦ omega (arith, ap (λ q. get_or after (get_or places q 0) 0) p, ap (λ q. get_or costs q 0) p) | inr p ↦ o.road k (omega arith) ];
     way = wider;
   }
 
-  -- one by which it does
-  pub followed_nears : (e w : ℕ) (keys'' : List ℕ) → e ≡ get_or places i 0 → w ≡ get_or costs i 0 + away → w < get_or after e 0 → e < length after → Moved n keys' keys'' e (key_of w e) → Followed n places costs away (i + 1) before (set after e w) keys keys''
-  followed_nears e w keys'' x y h l m =
+  -- an arc by which its place gets no closer
+  pub followed_keeps : (e cost j : ℕ) → e ≡ get_or places i 0 → cost ≡ get_or costs i 0 → j ≡ i + 1 → get_or after e 0 ≤ away + cost → Followed n places costs away j before after keys keys'
+  followed_keeps e cost j x y s h = subst (λ m. Followed n places costs away m before after keys keys') (sym s) (keeps (omega (arith, h, y, ap (λ q. get_or after q 0) x)))
+
+  nears : (e w : ℕ) (keys'' : List ℕ) → e ≡ get_or places i 0 → w ≡ get_or costs i 0 + away → w < get_or after e 0 → e < length after → Moved n keys' keys'' e (key_of w e) → Followed n places costs away (i + 1) before (set after e w) keys keys''
+  nears e w keys'' x y h l m =
       let s : get_or (set after e w) e 0 ≡ w = get_or-set_same after e w 0 l in
       let f : (a : ℕ) → (a ≡ e → ⊥) → get_or (set after e w) a 0 ≡ get_or after a 0 = λ a ne. get_or-set_other after e a w 0 ne in
       record {
@@ -40,3 +42,9 @@ module _ (n : ℕ) (places costs : List ℕ) (away i : ℕ) (before after keys k
           ]
         ];
       }
+
+  -- one by which it does
+  pub followed_nears : (e cost j m : ℕ) (keys'' : List ℕ) → e ≡ get_or places i 0 → cost ≡ get_or costs i 0 → j ≡ i + 1 → m ≡ n → away + cost < get_or after e 0 → e < length after → Moved m keys' keys'' e (key_of (away + cost) e)
+      → Followed n places costs away j before (set after e (away + cost)) keys keys''
+  followed_nears e cost j m keys'' x y s t h l o = subst (λ k. Followed n places costs away k before (set after e (away + cost)) keys keys'') (sym s)
+      (nears e (away + cost) keys'' x (omega (arith, y)) h l (subst (λ k. Moved k keys' keys'' e (key_of (away + cost) e)) t o))

@@ -6,7 +6,7 @@ use Rattle.maps.specs.Arcs.{arc_part}
 use Rattle.maps.specs.Charts.{chart}
 use Rattle.maps.specs.declared.map.RoadMap.{RoadMap}
 use Rattle.maps.proofs.Views.{view_arcs}
-use Rattle.maps.proofs.ArcParts.{part_length, part_at, part_inside, parts_level}
+use Rattle.maps.proofs.ArcParts.{part_length, part_at, part_inside}
 use Rattle.distances.specs.Keys.{Popped}
 use Rattle.distances.specs.Orders.{OrderRow}
 use Rattle.distances.specs.Rows.{FarRow}
@@ -31,9 +31,6 @@ module _ (m : RoadMap) (d : ℕ) (dn : d < m.n) (dist keys : List ℕ) (o : Sear
     turn_place order count ordered = omega (arith, ordered.counts, fewer m.n m.starts.now m.places.now m.costs.now (view_arcs m) d dn dist keys o u popped.0 popped.1 popped.2)
 
     module _ (ps cs : List ℕ) (pe : ps ≡ arc_part m.n m.starts.now m.places.now u) (ce : cs ≡ arc_part m.n m.starts.now m.costs.now u) where
-      pub turn_level : length cs ≡ length ps
-      turn_level = ap length ce ∙ parts_level m.n m.starts.now m.places.now m.costs.now (view_arcs m) u popped.0 ∙ sym (ap length pe)
-
       pub turn_places : (k : ℕ) → k < length ps → get_or ps k 0 < m.n
       turn_places k l = omega (arith, part_inside m.n m.starts.now m.places.now m.costs.now (view_arcs m) u popped.0 k (omega (arith, ap length pe)), ap (λ (xs : List ℕ). get_or xs k 0) pe)
 

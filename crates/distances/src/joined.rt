@@ -3,7 +3,7 @@ ghost use Rattle.std.specs.Prelude.{◌≡◌, length};
 ghost use Rattle.ways.specs.Ways.{hangs_together};
 ghost use Rattle.maps.specs.Charts.{chart};
 
-use crate::dijkstra::distances;
+use crate::target::Target;
 use maps::map::RoadMap;
 
 /// The same, in lent memory for the distances to place 0, which is left with them.
@@ -11,7 +11,11 @@ fn reaches_all(map: &RoadMap<'_>, dist: &mut [u32]) -> bool
     requires { length dist.old ≡ map.now.n }
     ensures { result ≡ hangs_together (chart map.now) }
 {
-    distances(map, 0, dist);
+    let target = Target {
+        map: *map,
+        place: 0,
+    };
+    target.distances(dist);
     for a in 0..map.n {
         if dist[a] == u32::MAX {
             return false;

@@ -9,6 +9,7 @@ mod queue;
 pub mod rows;
 pub mod survey;
 pub mod surveying;
+mod target;
 #[cfg(test)]
 mod tests;
 pub mod unreached;

@@ -4,41 +4,34 @@ ghost use Rattle.maps.specs.Charts.{chart};
 ghost use Rattle.distances.specs.Orders.{OrderRow};
 ghost use Rattle.distances.specs.Rows.{FarRow, HopRow, Worked, WorkedAll, WorkedAllInOrder};
 
-use crate::dijkstra::{distances, distances_in_order};
-use crate::nexts::nexts;
+use crate::target::Target;
 use maps::kinds::Fault;
 use maps::map::RoadMap;
 
-/// Works out one row in memory of the right size.
-fn work_out(map: &RoadMap<'_>, d: usize, dist: &mut [u32], next: &mut [u16])
-    requires here { d < map.now.n }
-    requires dists { length dist.old ≡ map.now.n }
-    requires nexts { length next.old ≡ map.now.n }
-    ensures far { FarRow (chart map.now) d dist.new }
-    ensures hop { HopRow (chart map.now) d next.new }
-{
-    distances(map, d, dist);
-    nexts(map, d, dist, next);
-}
+impl Target<'_> {
+    /// Works out one row in memory of the right size.
+    fn work_out(&self, dist: &mut [u32], next: &mut [u16])
+        requires dists { length dist.old ≡ self.now.map.n }
+        requires nexts { length next.old ≡ self.now.map.n }
+        ensures far { FarRow (chart self.now.map) self.now.place dist.new }
+        ensures hop { HopRow (chart self.now.map) self.now.place next.new }
+    {
+        self.distances(dist);
+        self.nexts(dist, next);
+    }
 
-/// The same, and the places in the order of their distances from `d`, if every place has a way.
-fn work_out_in_order(
-    map: &RoadMap<'_>,
-    d: usize,
-    dist: &mut [u32],
-    next: &mut [u16],
-    order: &mut [u16],
-)
-    requires here { d < map.now.n }
-    requires dists { length dist.old ≡ map.now.n }
-    requires nexts { length next.old ≡ map.now.n }
-    requires orders { length order.old ≡ map.now.n }
-    ensures far { FarRow (chart map.now) d dist.new }
-    ensures hop { HopRow (chart map.now) d next.new }
-    ensures order { OrderRow map.now.n dist.new order.new }
-{
-    distances_in_order(map, d, dist, order);
-    nexts(map, d, dist, next);
+    /// The same, and the places in the order of their distances, if every place has a way.
+    fn work_out_in_order(&self, dist: &mut [u32], next: &mut [u16], order: &mut [u16])
+        requires dists { length dist.old ≡ self.now.map.n }
+        requires nexts { length next.old ≡ self.now.map.n }
+        requires orders { length order.old ≡ self.now.map.n }
+        ensures far { FarRow (chart self.now.map) self.now.place dist.new }
+        ensures hop { HopRow (chart self.now.map) self.now.place next.new }
+        ensures order { OrderRow self.now.map.n dist.new order.new }
+    {
+        self.distances_in_order(dist, order);
+        self.nexts(dist, next);
+    }
 }
 
 /// Works out one row: how far each place is from `d`, and the next place from it towards `d`; the highest number where there is no way, and no next place.
@@ -49,7 +42,11 @@ pub fn row(map: &RoadMap<'_>, d: usize, dist: &mut [u32], next: &mut [u16]) -> R
     if d >= map.n || dist.len() != map.n || next.len() != map.n {
         return Err(Fault::Range);
     }
-    work_out(map, d, dist, next);
+    let target = Target {
+        map: *map,
+        place: d,
+    };
+    target.work_out(dist, next);
     Ok(())
 }
 
@@ -65,7 +62,11 @@ pub fn all_rows(map: &RoadMap<'_>, dist: &mut [u32], next: &mut [u16]) -> Result
     for d in 0..n {
         let from = d * n;
         let to = from + n;
-        work_out(map, d, &mut dist[from..to], &mut next[from..to]);
+        let target = Target {
+            map: *map,
+            place: d,
+        };
+        target.work_out(&mut dist[from..to], &mut next[from..to]);
     }
     Ok(())
 }
@@ -87,9 +88,11 @@ pub fn all_rows_in_order(
     for d in 0..n {
         let from = d * n;
         let to = from + n;
-        work_out_in_order(
-            map,
-            d,
+        let target = Target {
+            map: *map,
+            place: d,
+        };
+        target.work_out_in_order(
             &mut dist[from..to],
             &mut next[from..to],
             &mut order[from..to],

@@ -3,7 +3,7 @@ ghost use Rattle.std.specs.Prelude.{◌≡◌, length};
 ghost use Rattle.maps.specs.Charts.{chart};
 ghost use Rattle.distances.specs.Unreached.{lowest_apart, Lowest};
 
-use crate::dijkstra::distances;
+use crate::target::Target;
 use maps::map::RoadMap;
 
 /// The same, in lent memory for the distances to place 0, which is left with them.
@@ -12,7 +12,11 @@ fn first_apart(map: &RoadMap<'_>, dist: &mut [u32]) -> Option<u16>
     ensures value { result ≡ lowest_apart (chart map.now) }
     ensures lowest { Lowest (chart map.now) result }
 {
-    distances(map, 0, dist);
+    let target = Target {
+        map: *map,
+        place: 0,
+    };
+    target.distances(dist);
     for a in 0..map.n {
         if dist[a] == u32::MAX {
             return Some(a as u16);
