@@ -1,10 +1,11 @@
 // Dijkstra's algorithm: places are settled one after the other, the closest first, and their arcs followed.
 ghost use Rattle.std.specs.Prelude.{◌≡◌, ℕ, ◌+◌, ◌^◌, ◌<◌, ◌≤◌, length, slice_index};
 ghost use Rattle.maps.specs.Charts.{chart};
-ghost use Rattle.distances.specs.Orders.{OrderRow};
+ghost use Rattle.distances.specs.Orders.{Goes, OrderRow, Room};
 ghost use Rattle.distances.specs.Rows.{FarRow};
 ghost use Rattle.distances.specs.Steps.{Followed};
 
+use crate::order::Order;
 use crate::queue::Queue;
 use crate::target::Target;
 use maps::arcs::ArcsFrom;
@@ -28,13 +29,15 @@ fn follow(arcs: &ArcsFrom<'_>, away: u32, dist: &mut [u32], queue: &mut Queue)
 }
 
 impl Target<'_> {
-    /// Writes how far each place is from the target, the highest number where there is no way; and the places in the order in which they are settled,
-    /// which is that of their distances, if every place has a way. Each place is settled once and each arc followed once: (n + roads) times as often as n can be halved, at most.
-    pub(crate) fn distances_in_order(&self, dist: &mut [u32], order: &mut [u16])
+    /// Writes how far each place is from the target, the highest number where there is no way; and notes, in entries `from` to `from + n - 1`, the places in the
+    /// order in which they are settled, which is that of their distances, if every place has a way. Each place is settled once and each arc followed once:
+    /// (n + roads) times as often as n can be halved, at most.
+    pub(crate) fn distances<O: Order>(&self, dist: &mut [u32], from: usize, order: &mut [u16])
         requires dists { length dist.old ≡ self.now.map.n }
-        requires orders { length order.old ≡ self.now.map.n }
+        requires room { Room O.holds order.old (from + self.now.map.n) }
+        requires fits { from + self.now.map.n < 2 ^ 64 }
         ensures far { FarRow (chart self.now.map) self.now.place dist.new }
-        ensures order { OrderRow self.now.map.n dist.new order.new }
+        ensures order { Goes O.holds order.old order.new (from + self.now.map.n) (OrderRow self.now.map.n from dist.new) }
     {
         dist.fill(u32::MAX);
         dist[self.place] = 0;
@@ -42,19 +45,9 @@ impl Target<'_> {
         queue.put(self.place, 0);
         let mut count = 0;
         while let Some(u) = queue.pop() {
-            order[count] = u as u16;
+            O::note(order, from + count, u as u16);
             count += 1;
             follow(&self.map.arcs(u), dist[u], dist, &mut queue);
         }
-    }
-
-    /// Writes how far each place is from the target, the highest number where there is no way.
-    /// Each place is settled once and each arc followed once: (n + roads) times as often as n can be halved, at most.
-    pub(crate) fn distances(&self, dist: &mut [u32])
-        requires { length dist.old ≡ self.now.map.n }
-        ensures { FarRow (chart self.now.map) self.now.place dist.new }
-    {
-        let mut order = [0u16; 512];
-        self.distances_in_order(dist, &mut order[0..self.map.n]);
     }
 }

@@ -5,6 +5,7 @@ mod dijkstra;
 pub mod joined;
 pub mod lent;
 mod nexts;
+mod order;
 mod queue;
 pub mod rows;
 pub mod survey;

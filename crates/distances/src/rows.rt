@@ -1,36 +1,45 @@
 // One row of distances and next places, and all rows of a map.
-ghost use Rattle.std.specs.Prelude.{◌≡◌, ℕ, ◌*◌, ◌<◌, ◌≤◌, length};
+ghost use Rattle.std.specs.Prelude.{◌≡◌, ℕ, ◌+◌, ◌*◌, ◌^◌, ◌<◌, ◌≤◌, length};
 ghost use Rattle.maps.specs.Charts.{chart};
-ghost use Rattle.distances.specs.Orders.{OrderRow};
-ghost use Rattle.distances.specs.Rows.{FarRow, HopRow, Worked, WorkedAll, WorkedAllInOrder};
+ghost use Rattle.distances.specs.Orders.{Goes, OrderRow, OrderRows, Room};
+ghost use Rattle.distances.specs.Rows.{FarRow, FarRows, HopRow, HopRows, Worked, WorkedAll, WorkedAllInOrder};
 
+use crate::order::{Noted, Order, Unnoted};
 use crate::target::Target;
 use maps::kinds::Fault;
 use maps::map::RoadMap;
 
 impl Target<'_> {
-    /// Works out one row in memory of the right size.
-    fn work_out(&self, dist: &mut [u32], next: &mut [u16])
+    /// Works out one row in memory of the right size, and notes the order of the places in entries `from` to `from + n - 1`.
+    fn work_out<O: Order>(&self, dist: &mut [u32], next: &mut [u16], from: usize, order: &mut [u16])
         requires dists { length dist.old ≡ self.now.map.n }
         requires nexts { length next.old ≡ self.now.map.n }
+        requires room { Room O.holds order.old (from + self.now.map.n) }
+        requires fits { from + self.now.map.n < 2 ^ 64 }
         ensures far { FarRow (chart self.now.map) self.now.place dist.new }
         ensures hop { HopRow (chart self.now.map) self.now.place next.new }
+        ensures order { Goes O.holds order.old order.new (from + self.now.map.n) (OrderRow self.now.map.n from dist.new) }
     {
-        self.distances(dist);
+        self.distances::<O>(dist, from, order);
         self.nexts(dist, next);
     }
+}
 
-    /// The same, and the places in the order of their distances, if every place has a way.
-    fn work_out_in_order(&self, dist: &mut [u32], next: &mut [u16], order: &mut [u16])
-        requires dists { length dist.old ≡ self.now.map.n }
-        requires nexts { length next.old ≡ self.now.map.n }
-        requires orders { length order.old ≡ self.now.map.n }
-        ensures far { FarRow (chart self.now.map) self.now.place dist.new }
-        ensures hop { HopRow (chart self.now.map) self.now.place next.new }
-        ensures order { OrderRow self.now.map.n dist.new order.new }
-    {
-        self.distances_in_order(dist, order);
-        self.nexts(dist, next);
+/// Works out all rows in memory of the right size, and notes the orders of the places in the same entries.
+fn work_out_all<O: Order>(map: &RoadMap<'_>, dist: &mut [u32], next: &mut [u16], order: &mut [u16])
+    requires dists { length dist.old ≡ map.now.n * map.now.n }
+    requires nexts { length next.old ≡ map.now.n * map.now.n }
+    requires room { Room O.holds order.old (map.now.n * map.now.n) }
+    ensures fars { FarRows (chart map.now) dist.new }
+    ensures hops { HopRows (chart map.now) next.new }
+    ensures orders { Goes O.holds order.old order.new (map.now.n * map.now.n) (λ _ orders. OrderRows map.now.n dist.new orders) }
+{
+    let n = map.n;
+    for place in 0..n {
+        let target = Target { map: *map, place };
+        let from = place * n;
+        let to = from + n;
+        target.work_out::<O>(&mut dist[from..to], &mut next[from..to], from, order);
     }
 }
 
@@ -46,7 +55,7 @@ pub fn row(map: &RoadMap<'_>, d: usize, dist: &mut [u32], next: &mut [u16]) -> R
         map: *map,
         place: d,
     };
-    target.work_out(dist, next);
+    target.work_out::<Unnoted>(dist, next, 0, &mut []);
     Ok(())
 }
 
@@ -59,15 +68,7 @@ pub fn all_rows(map: &RoadMap<'_>, dist: &mut [u32], next: &mut [u16]) -> Result
     if dist.len() != n * n || next.len() != n * n {
         return Err(Fault::Range);
     }
-    for d in 0..n {
-        let from = d * n;
-        let to = from + n;
-        let target = Target {
-            map: *map,
-            place: d,
-        };
-        target.work_out(&mut dist[from..to], &mut next[from..to]);
-    }
+    work_out_all::<Unnoted>(map, dist, next, &mut []);
     Ok(())
 }
 
@@ -85,18 +86,6 @@ pub fn all_rows_in_order(
     if dist.len() != n * n || next.len() != n * n || order.len() != n * n {
         return Err(Fault::Range);
     }
-    for d in 0..n {
-        let from = d * n;
-        let to = from + n;
-        let target = Target {
-            map: *map,
-            place: d,
-        };
-        target.work_out_in_order(
-            &mut dist[from..to],
-            &mut next[from..to],
-            &mut order[from..to],
-        );
-    }
+    work_out_all::<Noted>(map, dist, next, order);
     Ok(())
 }
