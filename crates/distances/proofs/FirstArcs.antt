@@ -1,5 +1,6 @@
 -- The first arc that begins a cheapest way leads to the next place. Assumes nothing.
-use Rattle.std.proofs.Common.{◌≡◌, ℕ, ◌+◌, ◌-◌, ◌^◌, ◌<◌, List, length, get_or, sym, refl, ap, ◌∙◌, subst, inl, inr, arith}
+use Rattle.std.proofs.Common.{◌≡◌, ℕ, ◌+◌, ◌-◌, ◌^◌, ◌<◌, List, length, get_or, Some, None, Option, sym, refl, ap, ◌∙◌, subst, inl, inr, arith}
+use Rattle.std.specs.Prelude.{unwrap_or}
 use Rattle.std.proofs.lemmas.Bool.{cases_eq, cases_lt}
 use Rattle.ways.specs.Map.{At, far, Hop, Nowhere, To, hop}
 use Rattle.ways.specs.Laws.{Closer}
@@ -10,7 +11,7 @@ use Rattle.maps.specs.Arcs.{arc_part}
 use Rattle.maps.specs.Charts.{chart}
 use Rattle.maps.specs.declared.map.RoadMap.{RoadMap}
 use Rattle.maps.proofs.Views.{view_arcs}
-use Rattle.maps.proofs.ArcParts.{part_length, part_at, part_inside, parts_level}
+use Rattle.maps.proofs.ArcParts.{part_length, part_at, part_inside}
 use Rattle.maps.proofs.Costs.{arc_cost, road_arc, arcs_rise}
 use Rattle.distances.specs.Rows.{hop_number, FarRow}
 use Rattle.distances.specs.Steps.{Leads, FirstOn}
@@ -26,9 +27,6 @@ module _ (m : RoadMap) (d : ℕ) (dn : d < m.n) (dist : List ℕ) (f : FarRow (c
 
   cost_at : (k : ℕ) → get_or m.starts.now a 0 + k < get_or m.starts.now (a + 1) 0 → get_or cs k 0 ≡ get_or m.costs.now (get_or m.starts.now a 0 + k) 0
   cost_at k h = ap (λ (xs : List ℕ). get_or xs k 0) ce ∙ part_at m.n m.starts.now m.places.now m.costs.now (view_arcs m) m.costs.now (view_arcs m).level a an k h
-
-  pub arcs_level : length cs ≡ length ps
-  arcs_level = ap length ce ∙ parts_level m.n m.starts.now m.places.now m.costs.now (view_arcs m) a an ∙ sym (ap length pe)
 
   pub arcs_inside : (k : ℕ) → k < length ps → get_or ps k 0 < m.n
   arcs_inside k l = omega (arith, part_inside m.n m.starts.now m.places.now m.costs.now (view_arcs m) a an k (omega (arith, ap length pe)), ap (λ (xs : List ℕ). get_or xs k 0) pe)
@@ -89,12 +87,12 @@ module _ (m : RoadMap) (d : ℕ) (dn : d < m.n) (dist : List ℕ) (f : FarRow (c
       let c = closer_leads w ((next_place (chart m) d a dn an).closer w e) in
       absurd (b c.0 c.1 (subst (λ q. Leads (get_or cs c.0 0) (get_or dist a 0) (get_or dist q 0)) (sym c.2) c.3))
 
-  pub first_is_hop : (r : ℕ) → FirstOn ps cs (get_or dist a 0) dist r → r ≡ hop_number (hop (chart m) d a)
-  first_is_hop r (inl h) =
+  pub first_is_hop : (r : Option ℕ) → FirstOn ps cs (get_or dist a 0) dist r → unwrap_or r 65535 ≡ hop_number (hop (chart m) d a)
+  first_is_hop (Some r) h =
       let c = leads_closer h.0 r h.1 h.2 h.3 in
       let t = (next_place (chart m) d a dn an).there ((chart m).cost a r + c.rest) c.whole_is (not_d r c) in
       let low : (x : ℕ) → x < r → Closer (chart m) d a x → ⊥ = λ x l q.
       (let j = closer_leads x q in
       h.4 j.0 (rises j.0 h.0 j.1 h.1 (omega (arith, j.2, h.2))) (subst (λ y. Leads (get_or cs j.0 0) (get_or dist a 0) (get_or dist y 0)) (sym j.2) j.3)) in
       sym (same_hop t.0 r t.1 c low) ∙ ap hop_number (sym t.1)
-  first_is_hop r (inr h) = h.0 ∙ none_hop (hop (chart m) d a) refl h.1
+  first_is_hop None h = none_hop (hop (chart m) d a) refl h

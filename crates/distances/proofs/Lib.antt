@@ -1,5 +1,4 @@
 pub mod Trees
-pub mod Following
 pub mod Ordering
 pub mod Searching
 pub mod Turns

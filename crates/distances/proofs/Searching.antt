@@ -11,7 +11,7 @@ use Rattle.maps.specs.Arcs.{map_in, Arcs}
 use Rattle.maps.proofs.Costs.{starts_most, arc_cost, road_arc, meaning}
 use Rattle.distances.specs.Keys.{empty, key_of, leaf, Moved}
 use Rattle.distances.specs.Rows.{far_number, FarRow}
-use Rattle.distances.specs.Orders.{OrderRow}
+use Rattle.distances.specs.Orders.{Reached, Sorted}
 use Rattle.distances.specs.Steps.{Followed}
 use Rattle.distances.proofs.Ordering.{Ordering, ordering_start, ordering_more, ordering_end}
 
@@ -81,8 +81,8 @@ module _ (z : Map) (n d : ℕ) (zn : z.n ≡ n) (few : n ≤ 512) (dn : d < n) (
     fits = λ a l. elim (cases_eq a d) [ inl e ↦ omega (arith, ap (λ k. get_or first k 0) e, first_here) | inr e ↦ omega (arith, first_else a l e) ];
   }
 
-  pub order_start : (order : List ℕ) → Ordering n (λ a. get_or first a 0) (settled n first keys) order 0
-  order_start order = ordering_start n (λ a. get_or first a 0) (settled n first keys) order none_settled
+  pub order_start : (seq : ℕ → ℕ) → Ordering n (λ a. get_or first a 0) (settled n first keys) seq 0
+  order_start seq = ordering_start n (λ a. get_or first a 0) (settled n first keys) seq none_settled
 
 -- ---- one place more is settled: u, taken out of the queue, and its arcs followed
 module _ (n : ℕ) (starts places costs : List ℕ) (A : Arcs n starts places costs) (d : ℕ) (dn : d < n) (dist keys : List ℕ) (o : Searching (map_in n starts places costs) n d dist keys)
@@ -187,10 +187,10 @@ module _ (n : ℕ) (starts places costs : List ℕ) (A : Arcs n starts places co
       | inr p ↦ absurd (both_ways (settled n dist keys a) (nears_open a l (get_or cs p.0 0) p.3 p.4) h)
     ]
 
-    module _ (order : List ℕ) (count : ℕ) (ordered : Ordering n (λ a. get_or dist a 0) (settled n dist keys) order count) (long : length order ≡ n) where
-      pub order_more : Ordering n (λ a. get_or after a 0) (settled n after keys₂) (set order count u) (count + 1)
-      order_more = ordering_more n (λ a. get_or dist a 0) (λ a. get_or after a 0) (settled n dist keys) (settled n after keys₂) order count u ordered un u_open u_settled all_same settled_stays u_stays.0
-          (λ a l h. o.going.order u a un l h u_open) long
+    pub order_more : (seq next : ℕ → ℕ) (count : ℕ) → Ordering n (λ a. get_or dist a 0) (settled n dist keys) seq count → next count ≡ u → ((j : ℕ) → j < count → next j ≡ seq j)
+        → Ordering n (λ a. get_or after a 0) (settled n after keys₂) next (count + 1)
+    order_more seq next count ordered = ordering_more n (λ a. get_or dist a 0) (λ a. get_or after a 0) (settled n dist keys) (settled n after keys₂) seq next count u ordered un u_open u_settled all_same
+        settled_stays u_stays.0 (λ a l h. o.going.order u a un l h u_open)
 
     still_waits : (a : ℕ) → a < n → leaf n keys₂ a < empty → (leaf n keys₂ a ≡ key_of (get_or after a 0) a) × (get_or after a 0 < none)
     still_waits a l h = elim (cases_eq a u) [
@@ -227,9 +227,9 @@ module _ (n : ℕ) (starts places costs : List ℕ) (A : Arcs n starts places co
   ]
 
   -- where every place was reached, all are settled
-  pub order_end : (order : List ℕ) (count : ℕ) → Ordering n (λ a. get_or dist a 0) (settled n dist keys) order count → OrderRow n dist order
-  order_end order count ordered reached =
-      ordering_end n (λ a. get_or dist a 0) (settled n dist keys) order count ordered (λ a l. settled_from n dist keys a l (reached a l) (nobody a l))
+  pub order_end : (seq : ℕ → ℕ) (count : ℕ) → Ordering n (λ a. get_or dist a 0) (settled n dist keys) seq count → Reached n (λ a. get_or dist a 0) → Sorted n (λ a. get_or dist a 0) seq
+  order_end seq count ordered reached =
+      ordering_end n (λ a. get_or dist a 0) (settled n dist keys) seq count ordered (λ a l. settled_from n dist keys a l (reached a l) (nobody a l))
 
   pub searching_end : FarRow (map_in n starts places costs) d dist
   searching_end a l = number_back (get_or dist a 0) (o.fits a l) ∙ ap far_number (sym (far_is (map_in n starts places costs) d (λ a. read_at none (get_or dist a 0)) found a l))

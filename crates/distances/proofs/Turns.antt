@@ -1,14 +1,14 @@
 -- One turn of the search, over a map in memory and the queue as the code has it. Assumes nothing.
-use Rattle.std.proofs.Common.{◌≡◌, ℕ, ◌+◌, ◌-◌, ◌^◌, ◌<◌, List, length, get_or, set, Some, None, sym, refl, ap, ◌∙◌, subst, arith}
+use Rattle.std.proofs.Common.{◌≡◌, ℕ, ◌+◌, ◌-◌, ◌^◌, ◌<◌, List, length, get_or, Some, None, refl, ap, ◌∙◌, subst, arith}
 use Rattle.ways.specs.Ways.{count_below}
 use Rattle.ways.proofs.Counting.{count_most}
 use Rattle.maps.specs.Arcs.{arc_part}
 use Rattle.maps.specs.Charts.{chart}
 use Rattle.maps.specs.declared.map.RoadMap.{RoadMap}
 use Rattle.maps.proofs.Views.{view_arcs}
-use Rattle.maps.proofs.ArcParts.{part_length, part_at, part_inside, parts_level}
+use Rattle.maps.proofs.ArcParts.{part_length, part_at, part_inside}
 use Rattle.distances.specs.Keys.{Popped}
-use Rattle.distances.specs.Orders.{OrderRow}
+use Rattle.distances.specs.Orders.{Reached, Sorted}
 use Rattle.distances.specs.Rows.{FarRow}
 use Rattle.distances.specs.Steps.{Followed}
 use Rattle.distances.proofs.Ordering.{Ordering}
@@ -27,13 +27,10 @@ module _ (m : RoadMap) (d : ℕ) (dn : d < m.n) (dist keys : List ℕ) (o : Sear
     turn_room = omega (arith, searching_room m.n m.starts.now m.places.now m.costs.now (view_arcs m) d dn dist keys o u popped.0 popped.1 popped.2)
 
     -- there is a place for u in the order
-    pub turn_place : (order : List ℕ) (count : ℕ) → Ordering m.n (λ a. get_or dist a 0) (settled m.n dist keys) order count → count < m.n
-    turn_place order count ordered = omega (arith, ordered.counts, fewer m.n m.starts.now m.places.now m.costs.now (view_arcs m) d dn dist keys o u popped.0 popped.1 popped.2)
+    pub turn_place : (seq : ℕ → ℕ) (count : ℕ) → Ordering m.n (λ a. get_or dist a 0) (settled m.n dist keys) seq count → count < m.n
+    turn_place seq count ordered = omega (arith, ordered.counts, fewer m.n m.starts.now m.places.now m.costs.now (view_arcs m) d dn dist keys o u popped.0 popped.1 popped.2)
 
     module _ (ps cs : List ℕ) (pe : ps ≡ arc_part m.n m.starts.now m.places.now u) (ce : cs ≡ arc_part m.n m.starts.now m.costs.now u) where
-      pub turn_level : length cs ≡ length ps
-      turn_level = ap length ce ∙ parts_level m.n m.starts.now m.places.now m.costs.now (view_arcs m) u popped.0 ∙ sym (ap length pe)
-
       pub turn_places : (k : ℕ) → k < length ps → get_or ps k 0 < m.n
       turn_places k l = omega (arith, part_inside m.n m.starts.now m.places.now m.costs.now (view_arcs m) u popped.0 k (omega (arith, ap length pe)), ap (λ (xs : List ℕ). get_or xs k 0) pe)
 
@@ -53,8 +50,8 @@ module _ (m : RoadMap) (d : ℕ) (dn : d < m.n) (dist keys : List ℕ) (o : Sear
         pub turn_more : Searching (chart m) m.n d after keys₂
         turn_more = searching_more m.n m.starts.now m.places.now m.costs.now (view_arcs m) d dn dist keys o u popped.0 popped.1 popped.2 keys₁ popped.3 ps cs after keys₂ long places_at costs_at followed la
 
-        pub turn_ordered : (order : List ℕ) (count : ℕ) → Ordering m.n (λ a. get_or dist a 0) (settled m.n dist keys) order count → length order ≡ m.n
-            → Ordering m.n (λ a. get_or after a 0) (settled m.n after keys₂) (set order count u) (count + 1)
+        pub turn_ordered : (seq next : ℕ → ℕ) (count : ℕ) → Ordering m.n (λ a. get_or dist a 0) (settled m.n dist keys) seq count → next count ≡ u → ((j : ℕ) → j < count → next j ≡ seq j)
+            → Ordering m.n (λ a. get_or after a 0) (settled m.n after keys₂) next (count + 1)
         turn_ordered = order_more m.n m.starts.now m.places.now m.costs.now (view_arcs m) d dn dist keys o u popped.0 popped.1 popped.2 keys₁ popped.3 ps cs after keys₂ long places_at costs_at followed la
 
         -- fewer places are left
@@ -70,6 +67,7 @@ module _ (m : RoadMap) (d : ℕ) (dn : d < m.n) (dist keys : List ℕ) (o : Sear
   turn_end q qn keys₁ p =
       searching_end m.n m.starts.now m.places.now m.costs.now (view_arcs m) d dn dist keys o (subst (λ n. Popped n keys keys₁ None) qn p).1
 
-  pub turn_sorted : (q : ℕ) → q ≡ m.n → (keys₁ : List ℕ) → Popped q keys keys₁ None → (order : List ℕ) (count : ℕ) → Ordering m.n (λ a. get_or dist a 0) (settled m.n dist keys) order count → OrderRow m.n dist order
+  pub turn_sorted : (q : ℕ) → q ≡ m.n → (keys₁ : List ℕ) → Popped q keys keys₁ None → (seq : ℕ → ℕ) (count : ℕ) → Ordering m.n (λ a. get_or dist a 0) (settled m.n dist keys) seq count
+      → Reached m.n (λ a. get_or dist a 0) → Sorted m.n (λ a. get_or dist a 0) seq
   turn_sorted q qn keys₁ p =
       order_end m.n m.starts.now m.places.now m.costs.now (view_arcs m) d dn dist keys o (subst (λ n. Popped n keys keys₁ None) qn p).1

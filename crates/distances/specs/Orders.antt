@@ -1,5 +1,5 @@
 -- Places in the order of their distances from one place, or from each. Assumes nothing.
-use Rattle.std.specs.Prelude.{◌≡◌, ℕ, zero, suc, ◌+◌, ◌*◌, ◌<◌, ◌≤◌, cond, List, ◌==◌, slice_index}
+use Rattle.std.specs.Prelude.{◌≡◌, ℕ, zero, suc, ◌+◌, ◌*◌, ◌<◌, ◌≤◌, cond, List, length, ◌==◌, slice_index}
 
 -- seq has each of n places once, the closest first; `at` says where each place stands in it
 pub record Sorted (n : ℕ) (far seq : ℕ → ℕ) : Type 0 where
@@ -14,9 +14,11 @@ pub record Sorted (n : ℕ) (far seq : ℕ → ℕ) : Type 0 where
 abbrev pub Reached : ℕ → (ℕ → ℕ) → Type 0
 Reached n far = (a : ℕ) → a < n → far a < 4294967295
 
--- the order of one row, if every place has a way
-abbrev pub OrderRow : ℕ → List ℕ → List ℕ → Type 0
-OrderRow n dist order = Reached n (λ a. slice_index dist a) → Sorted n (λ a. slice_index dist a) (λ j. slice_index order j)
+-- what noting one row leaves of entries: those before `from` stay, and from there on stands the order of the row, if every place has a way
+pub record OrderRow (n from : ℕ) (dist before after : List ℕ) : Type 0 where
+  pub long : length after ≡ length before
+  pub rest : (j : ℕ) → j < from → slice_index after j ≡ slice_index before j
+  pub row : Reached n (λ a. slice_index dist a) → Sorted n (λ a. slice_index dist a) (λ j. slice_index after (from + j))
 
 -- the orders of all rows one after the other
 abbrev pub OrderRows : ℕ → List ℕ → List ℕ → Type 0
@@ -37,3 +39,11 @@ rank_in n order d u = rank (in_order n order d) n u
 -- d is a place, and every place has a way to it
 abbrev pub Whole : ℕ → List ℕ → ℕ → Type 0
 Whole n dist d = (d < n) × Reached n (λ a. slice_index dist (d * n + a))
+
+-- `s` may hold entries of which there are `many` at least, whatever it is that holds entries
+abbrev pub Room : {S : Type 0} → (S → List ℕ → Type 0) → S → ℕ → Type 0
+Room holds s many = (xs : List ℕ) × holds s xs × (many ≤ length xs)
+
+-- `before` may have held entries, `many` at least: whichever, `after` may hold some that R joins with them
+abbrev pub Goes : {S : Type 0} → (S → List ℕ → Type 0) → S → S → ℕ → (List ℕ → List ℕ → Type 0) → Type 0
+Goes holds before after many R = (xs : List ℕ) → holds before xs → many ≤ length xs → (ys : List ℕ) × holds after ys × R xs ys

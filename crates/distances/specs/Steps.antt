@@ -1,5 +1,5 @@
 -- What the steps leave by which a row is worked out. Assumes nothing.
-use Rattle.std.specs.Prelude.{◌≡◌, ℕ, ◌+◌, ◌<◌, ◌≤◌, ◌⊎◌, List, length, slice_index}
+use Rattle.std.specs.Prelude.{◌≡◌, ℕ, ◌+◌, ◌<◌, ◌≤◌, ◌⊎◌, List, length, Some, None, Option, slice_index}
 use Rattle.distances.specs.Keys.{leaf, key_of}
 
 -- place a keeps its distance and its key
@@ -20,9 +20,9 @@ pub record Followed (n : ℕ) (places costs : List ℕ) (away i : ℕ) (before a
 abbrev pub Leads : ℕ → ℕ → ℕ → Type 0
 Leads c away x = (0 < c) × (c + x ≡ away)
 
--- r is where the first arc that leads on goes, or 65535 where none leads on
-abbrev pub FirstOn : List ℕ → List ℕ → ℕ → List ℕ → ℕ → Type 0
-FirstOn places costs away dist r =
-    ((k : ℕ) × (k < length places) × (slice_index places k ≡ r) × Leads (slice_index costs k) away (slice_index dist r)
-    × ((j : ℕ) → j < k → Leads (slice_index costs j) away (slice_index dist (slice_index places j)) → ⊥))
-    ⊎ ((r ≡ 65535) × ((k : ℕ) → k < length places → Leads (slice_index costs k) away (slice_index dist (slice_index places k)) → ⊥))
+-- where the first arc that leads on goes; none leads on
+abbrev pub FirstOn : List ℕ → List ℕ → ℕ → List ℕ → Option ℕ → Type 0
+FirstOn places costs away dist (Some r) =
+    (k : ℕ) × (k < length places) × (slice_index places k ≡ r) × Leads (slice_index costs k) away (slice_index dist r)
+    × ((j : ℕ) → j < k → Leads (slice_index costs j) away (slice_index dist (slice_index places j)) → ⊥)
+FirstOn places costs away dist None = (k : ℕ) → k < length places → Leads (slice_index costs k) away (slice_index dist (slice_index places k)) → ⊥

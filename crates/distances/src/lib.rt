@@ -5,10 +5,12 @@ mod dijkstra;
 pub mod joined;
 pub mod lent;
 mod nexts;
+mod order;
 mod queue;
 pub mod rows;
 pub mod survey;
 pub mod surveying;
+mod target;
 #[cfg(test)]
 mod tests;
 pub mod unreached;

@@ -4,34 +4,34 @@ ghost use Rattle.maps.specs.Charts.{chart};
 ghost use Rattle.distances.specs.Rows.{FarRow, HopRow};
 ghost use Rattle.distances.specs.Steps.{FirstOn};
 
-use maps::map::RoadMap;
+use crate::target::Target;
+use maps::arcs::ArcsFrom;
 
-/// Where the first of a place's arcs leads that begins a cheapest way, if the place is at the distance `away`; the highest number if none does.
+/// Where the first of a place's arcs leads that begins a cheapest way, if the place is at the distance `away`.
 /// Arcs rise by the place to which they lead, so that the first is the lowest.
-fn first_on(places: &[u16], costs: &[u16], away: u32, dist: &[u32]) -> u16
-    requires long { length costs.now ≡ length places.now }
-    requires inside { (k : ℕ) → k < length places.now → slice_index places.now k < length dist.now }
-    ensures { FirstOn places.now costs.now away dist.now result }
+fn first_on(arcs: &ArcsFrom<'_>, away: u32, dist: &[u32]) -> Option<u16>
+    requires inside { (k : ℕ) → k < length arcs.now.places.now → slice_index arcs.now.places.now k < length dist.now }
+    ensures { FirstOn arcs.now.places.now arcs.now.costs.now away dist.now result }
 {
-    for k in 0..places.len() {
-        let x = dist[places[k] as usize];
-        if x < away && away - x == costs[k] as u32 {
-            return places[k];
+    for (k, place) in arcs.places.iter().enumerate() {
+        let x = dist[*place as usize];
+        if x < away && away - x == arcs.costs[k] as u32 {
+            return Some(*place);
         }
     }
-    u16::MAX
+    None
 }
 
-/// Writes the next place from each place towards `d`, the highest number where there is none. Looks at each arc once.
-pub(crate) fn nexts(map: &RoadMap<'_>, d: usize, dist: &[u32], next: &mut [u16])
-    requires here { d < map.now.n }
-    requires dists { length dist.now ≡ map.now.n }
-    requires nexts { length next.old ≡ map.now.n }
-    requires far { FarRow (chart map.now) d dist.now }
-    ensures { HopRow (chart map.now) d next.new }
-{
-    for a in 0..map.n {
-        let arcs = map.arcs(a);
-        next[a] = first_on(arcs.places, arcs.costs, dist[a], dist);
+impl Target<'_> {
+    /// Writes the next place from each place towards the target, the highest number where there is none. Looks at each arc once.
+    pub(crate) fn nexts(&self, dist: &[u32], next: &mut [u16])
+        requires dists { length dist.now ≡ self.now.map.n }
+        requires nexts { length next.old ≡ self.now.map.n }
+        requires far { FarRow (chart self.now.map) self.now.place dist.now }
+        ensures { HopRow (chart self.now.map) self.now.place next.new }
+    {
+        for (a, slot) in next.iter_mut().enumerate() {
+            *slot = first_on(&self.map.arcs(a), dist[a], dist).unwrap_or(u16::MAX);
+        }
     }
 }

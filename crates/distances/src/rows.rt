@@ -1,44 +1,46 @@
 // One row of distances and next places, and all rows of a map.
-ghost use Rattle.std.specs.Prelude.{◌≡◌, ℕ, ◌*◌, ◌<◌, ◌≤◌, length};
+ghost use Rattle.std.specs.Prelude.{◌≡◌, ℕ, ◌+◌, ◌*◌, ◌^◌, ◌<◌, ◌≤◌, length};
 ghost use Rattle.maps.specs.Charts.{chart};
-ghost use Rattle.distances.specs.Orders.{OrderRow};
-ghost use Rattle.distances.specs.Rows.{FarRow, HopRow, Worked, WorkedAll, WorkedAllInOrder};
+ghost use Rattle.distances.specs.Orders.{Goes, OrderRow, OrderRows, Room};
+ghost use Rattle.distances.specs.Rows.{FarRow, FarRows, HopRow, HopRows, Worked, WorkedAll, WorkedAllInOrder};
 
-use crate::dijkstra::{distances, distances_in_order};
-use crate::nexts::nexts;
+use crate::order::{Noted, Order, Unnoted};
+use crate::target::Target;
 use maps::kinds::Fault;
 use maps::map::RoadMap;
 
-/// Works out one row in memory of the right size.
-fn work_out(map: &RoadMap<'_>, d: usize, dist: &mut [u32], next: &mut [u16])
-    requires here { d < map.now.n }
-    requires dists { length dist.old ≡ map.now.n }
-    requires nexts { length next.old ≡ map.now.n }
-    ensures far { FarRow (chart map.now) d dist.new }
-    ensures hop { HopRow (chart map.now) d next.new }
-{
-    distances(map, d, dist);
-    nexts(map, d, dist, next);
+impl Target<'_> {
+    /// Works out one row in memory of the right size, and notes the order of the places in entries `from` to `from + n - 1`.
+    fn work_out<O: Order>(&self, dist: &mut [u32], next: &mut [u16], from: usize, order: &mut [u16])
+        requires dists { length dist.old ≡ self.now.map.n }
+        requires nexts { length next.old ≡ self.now.map.n }
+        requires room { Room O.holds order.old (from + self.now.map.n) }
+        requires fits { from + self.now.map.n < 2 ^ 64 }
+        ensures far { FarRow (chart self.now.map) self.now.place dist.new }
+        ensures hop { HopRow (chart self.now.map) self.now.place next.new }
+        ensures order { Goes O.holds order.old order.new (from + self.now.map.n) (OrderRow self.now.map.n from dist.new) }
+    {
+        self.distances::<O>(dist, from, order);
+        self.nexts(dist, next);
+    }
 }
 
-/// The same, and the places in the order of their distances from `d`, if every place has a way.
-fn work_out_in_order(
-    map: &RoadMap<'_>,
-    d: usize,
-    dist: &mut [u32],
-    next: &mut [u16],
-    order: &mut [u16],
-)
-    requires here { d < map.now.n }
-    requires dists { length dist.old ≡ map.now.n }
-    requires nexts { length next.old ≡ map.now.n }
-    requires orders { length order.old ≡ map.now.n }
-    ensures far { FarRow (chart map.now) d dist.new }
-    ensures hop { HopRow (chart map.now) d next.new }
-    ensures order { OrderRow map.now.n dist.new order.new }
+/// Works out all rows in memory of the right size, and notes the orders of the places in the same entries.
+fn work_out_all<O: Order>(map: &RoadMap<'_>, dist: &mut [u32], next: &mut [u16], order: &mut [u16])
+    requires dists { length dist.old ≡ map.now.n * map.now.n }
+    requires nexts { length next.old ≡ map.now.n * map.now.n }
+    requires room { Room O.holds order.old (map.now.n * map.now.n) }
+    ensures fars { FarRows (chart map.now) dist.new }
+    ensures hops { HopRows (chart map.now) next.new }
+    ensures orders { Goes O.holds order.old order.new (map.now.n * map.now.n) (λ _ orders. OrderRows map.now.n dist.new orders) }
 {
-    distances_in_order(map, d, dist, order);
-    nexts(map, d, dist, next);
+    let n = map.n;
+    for place in 0..n {
+        let target = Target { map: *map, place };
+        let from = place * n;
+        let to = from + n;
+        target.work_out::<O>(&mut dist[from..to], &mut next[from..to], from, order);
+    }
 }
 
 /// Works out one row: how far each place is from `d`, and the next place from it towards `d`; the highest number where there is no way, and no next place.
@@ -49,7 +51,11 @@ pub fn row(map: &RoadMap<'_>, d: usize, dist: &mut [u32], next: &mut [u16]) -> R
     if d >= map.n || dist.len() != map.n || next.len() != map.n {
         return Err(Fault::Range);
     }
-    work_out(map, d, dist, next);
+    let target = Target {
+        map: *map,
+        place: d,
+    };
+    target.work_out::<Unnoted>(dist, next, 0, &mut []);
     Ok(())
 }
 
@@ -62,11 +68,7 @@ pub fn all_rows(map: &RoadMap<'_>, dist: &mut [u32], next: &mut [u16]) -> Result
     if dist.len() != n * n || next.len() != n * n {
         return Err(Fault::Range);
     }
-    for d in 0..n {
-        let from = d * n;
-        let to = from + n;
-        work_out(map, d, &mut dist[from..to], &mut next[from..to]);
-    }
+    work_out_all::<Unnoted>(map, dist, next, &mut []);
     Ok(())
 }
 
@@ -84,16 +86,6 @@ pub fn all_rows_in_order(
     if dist.len() != n * n || next.len() != n * n || order.len() != n * n {
         return Err(Fault::Range);
     }
-    for d in 0..n {
-        let from = d * n;
-        let to = from + n;
-        work_out_in_order(
-            map,
-            d,
-            &mut dist[from..to],
-            &mut next[from..to],
-            &mut order[from..to],
-        );
-    }
+    work_out_all::<Noted>(map, dist, next, order);
     Ok(())
 }

@@ -1,24 +1,17 @@
 // The lowest place that can't be reached from place 0.
-ghost use Rattle.std.specs.Prelude.{◌≡◌, length};
+ghost use Rattle.std.specs.Prelude.{◌≡◌, ◌==◌, position};
 ghost use Rattle.maps.specs.Charts.{chart};
 ghost use Rattle.distances.specs.Unreached.{lowest_apart, Lowest};
 
-use crate::dijkstra::distances;
+use crate::order::Unnoted;
+use crate::target::Target;
 use maps::map::RoadMap;
 
-/// The same, in lent memory for the distances to place 0, which is left with them.
-fn first_apart(map: &RoadMap<'_>, dist: &mut [u32]) -> Option<u16>
-    requires { length dist.old ≡ map.now.n }
-    ensures value { result ≡ lowest_apart (chart map.now) }
-    ensures lowest { Lowest (chart map.now) result }
+/// Where the first distance stands that is that of no way.
+fn first_apart(dist: &[u32]) -> Option<usize>
+    ensures { result ≡ position (λ away. away == 4294967295) dist.now }
 {
-    distances(map, 0, dist);
-    for a in 0..map.n {
-        if dist[a] == u32::MAX {
-            return Some(a as u16);
-        }
-    }
-    None
+    dist.iter().position(|away| *away == u32::MAX)
 }
 
 /// The lowest place from which there is no way to place 0; `None` just where the map hangs together. Takes as long as one row.
@@ -26,6 +19,12 @@ pub fn unreached(map: &RoadMap<'_>) -> Option<u16>
     ensures value { result ≡ lowest_apart (chart map.now) }
     ensures lowest { Lowest (chart map.now) result }
 {
-    let mut dist = [u32::MAX; 512];
-    first_apart(map, &mut dist[0..map.n])
+    let mut memory = [u32::MAX; 512];
+    let dist = &mut memory[0..map.n];
+    let target = Target {
+        map: *map,
+        place: 0,
+    };
+    target.distances::<Unnoted>(dist, 0, &mut []);
+    first_apart(dist).map(|place| place as u16)
 }

@@ -1,5 +1,5 @@
 // The arcs that leave a place of a map.
-ghost use Rattle.std.specs.Prelude.{◌≡◌, ◌-◌, ◌≤◌, length, take, drop};
+ghost use Rattle.std.specs.Prelude.{◌≡◌, length};
 ghost use Rattle.maps.specs.Arcs.{arc_part};
 
 use super::map::RoadMap;
@@ -9,15 +9,7 @@ use super::map::RoadMap;
 pub struct ArcsFrom<'a> {
     pub places: &'a [u16],
     pub costs: &'a [u16],
-}
-
-/// The part of an array from `from` to before `to`.
-fn part(xs: &[u16], from: usize, to: usize) -> &[u16]
-    requires forward { from ≤ to }
-    requires within { to ≤ length xs.now }
-    ensures { result.now ≡ take (to - from) (drop from xs.now) }
-{
-    &xs[from..to]
+    ghost level: { length costs.now ≡ length places.now },
 }
 
 impl<'a> RoadMap<'a> {
@@ -35,8 +27,8 @@ impl<'a> RoadMap<'a> {
         let from = self.starts[a] as usize;
         let to = self.starts[a + 1] as usize;
         ArcsFrom {
-            places: part(self.places, from, to),
-            costs: part(self.costs, from, to),
+            places: &self.places[from..to],
+            costs: &self.costs[from..to],
         }
     }
 }
