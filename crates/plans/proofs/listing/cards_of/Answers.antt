@@ -1,4 +1,4 @@
-use Rattle.std.proofs.Common.{◌≡◌, ℕ, Bool, true, false, cond, ltb, Some, None, arith, rules, tests}
+use Rattle.std.proofs.Common.{◌≡◌, Bool, true, false, cond, ltb, Some, None, arith, rules, tests}
 use Rattle.std.proofs.lemmas.Iterator.{YieldsList-from_map, YieldsList-from_range, items_from_collect}
 use Rattle.cards.specs.Cards.{card_of}
 use Rattle.cards.specs.declared.kinds.Card.{Card}
