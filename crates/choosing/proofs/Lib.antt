@@ -1,11 +1,15 @@
 pub mod Sums
+pub mod Listed
 pub mod Lines
 pub mod RuleLaws
 pub mod RowParts
+pub mod Ordering
 pub mod Tabled
 pub mod Losses
 pub mod Ranges
 pub mod Totals
+pub mod Gathers
+pub mod Fadings
 pub mod Picks
 pub mod Loops
 pub mod Surveys

@@ -1,10 +1,8 @@
 -- The turns of the loop that chooses: what holds of the landmarks so far, and what it ends with. Assumes nothing.
-use Rattle.std.proofs.Common.{◌≡◌, ℕ, suc, ◌+◌, ◌-◌, ◌*◌, ◌<◌, ◌≤◌, min, Bool, true, false, ◌||◌, eqb, List, length, get_or, set, replicate, Some, None, sym, refl, ap, ◌∙◌, subst, inl, inr, arith, get_or-set_other, get_or-set_same}
+use Rattle.std.proofs.Common.{◌≡◌, ℕ, suc, ◌+◌, ◌-◌, ◌<◌, ◌≤◌, min, Bool, true, false, ◌||◌, eqb, List, length, get_or, set, replicate, Some, None, sym, refl, ap, ◌∙◌, subst, inl, inr, arith, get_or-set_other, get_or-set_same}
 use mathlib.Core.Path.{fun_ext}
-use Rattle.std.proofs.lemmas.List.Edits.{get_or-between}
 use Rattle.std.proofs.lemmas.List.{get_or-replicate, length-replicate, get_or_past}
 use Rattle.std.proofs.lemmas.Bool.{cases_lt, cases_eq, eq-eqb, ne_eqb, or_left}
-use Rattle.std.specs.List.{between}
 use Rattle.ways.specs.Map.{Map}
 use Rattle.ways.specs.Ways.{count_below}
 use Rattle.landmarks.specs.Landmarks.{Marks, marks_in, line_count}
@@ -15,7 +13,7 @@ use Rattle.choosing.specs.Turns.{Picked}
 use Rattle.choosing.specs.declared.kinds.Crowd.{Crowd}
 use Rattle.choosing.proofs.RuleLaws.{with_count, choose_done, choose_full, choose_on}
 use Rattle.choosing.proofs.Sums.{count_one}
-use Rattle.choosing.proofs.Tabled.{over_now, lines_now, aways_more, aways_first}
+use Rattle.choosing.proofs.Tabled.{over_nears, lines_now, aways_more, aways_first}
 
 -- the landmarks so far, how far each place is from its own, how many there are, and that the rule goes on from them
 pub record Choosing (z : Map) (room n : ℕ) (table : List ℕ) (marks : List Bool) (away : List ℕ) (count : ℕ) : Type 0 where
@@ -41,11 +39,6 @@ marks_first m marks h e v =
       | inr ne ↦ get_or-set_other marks 0 v true false ne ∙ ap (λ (xs : List Bool). get_or xs v false) e ∙ rep_false m v ∙ sym (ne_eqb v 0 ne)
     ]
 
-pub row_first : (n : ℕ) (table copied : List ℕ) → copied ≡ between 0 n table → (v : ℕ) → v < n → get_or copied v 0 ≡ apart n table 0 v
-row_first n table copied e v vn =
-    let k : 0 + v ≡ 0 * n + v = omega arith in
-    ap (λ (xs : List ℕ). get_or xs v 0) e ∙ get_or-between table 0 n v 0 (omega arith) ∙ ap (λ i. get_or table i 0) k
-
 pub turn_start : (z : Map) (room n : ℕ) (table : List ℕ) (marks : List Bool) (away : List ℕ) → Table z n table → 0 < n → ((v : ℕ) → marks_in marks v ≡ first v)
     → ((v : ℕ) → v < n → get_or away v 0 ≡ apart n table 0 v) → Choosing z room n table marks away 1
 turn_start z room n table marks away t zn ms h =
@@ -57,7 +50,7 @@ turn_start z room n table marks away t zn ms h =
       rest = ap (λ j. choose j z room first) k ∙ ap (choose (room + 3 - 1) z room) e;
     }
 
-module _ (z : Map) (room n : ℕ) (table : List ℕ) (marks : List Bool) (away : List ℕ) (count : ℕ) (g : Choosing z room n table marks away count) (le : count ≤ room + 1) where
+module _ (z : Map) (room n : ℕ) (table : List ℕ) (marks : List Bool) (away : List ℕ) (count : ℕ) (g : Choosing z room n table marks away count) (le : count ≤ room + 1) (near : List ℕ) (ns : Nears n table away near) where
   -- a turn is left
   fuel : (k : ℕ) × (room + 3 - count ≡ suc k) × (k ≡ room + 3 - (count + 1))
   fuel = (room + 2 - count, omega arith, omega arith)
@@ -65,12 +58,12 @@ module _ (z : Map) (room n : ℕ) (table : List ℕ) (marks : List Bool) (away :
   goes : chosen z room ≡ choose (suc fuel.0) z room (marks_in marks)
   goes = g.rest ∙ ap (λ k. choose k z room (marks_in marks)) fuel.1
 
-  pub turn_done : over_below n table away count room n ≡ 0 → chosen z room ≡ Marked (marks_in marks)
-  turn_done h = goes ∙ choose_done fuel.0 z room (marks_in marks) (sym (over_now z (marks_in marks) n table away g.aways room count g.counts) ∙ h)
+  pub turn_done : over_below near count room n ≡ 0 → chosen z room ≡ Marked (marks_in marks)
+  turn_done h = goes ∙ choose_done fuel.0 z room (marks_in marks) (sym (over_nears z (marks_in marks) n table away g.aways near ns room count g.counts) ∙ h)
 
-  module _ (some : over_below n table away count room n ≡ 0 → ⊥) where
+  module _ (some : over_below near count room n ≡ 0 → ⊥) where
     still : above z room (marks_in marks) ≡ 0 → ⊥
-    still h = some (over_now z (marks_in marks) n table away g.aways room count g.counts ∙ h)
+    still h = some (over_nears z (marks_in marks) n table away g.aways near ns room count g.counts ∙ h)
 
     count_there : count_below z.n (marks_in marks) ≡ count
     count_there = ap (λ m. count_below m (marks_in marks)) g.aways.tabled.places ∙ g.counts
@@ -79,24 +72,24 @@ module _ (z : Map) (room n : ℕ) (table : List ℕ) (marks : List Bool) (away :
     turn_full h = goes ∙ choose_full fuel.0 z room (marks_in marks) still (omega (arith, count_there))
 
     pub turn_none : count ≤ room → Picked z room (marks_in marks) None → chosen z room ≡ NoRoom (marks_in marks)
-    turn_none h p = goes ∙ choose_on fuel.0 z room (marks_in marks) still (omega (arith, count_there)) ∙ ap (go_on (choose fuel.0 z room) (marks_in marks)) p.1
+    turn_none h p = goes ∙ choose_on fuel.0 z room (marks_in marks) still (omega (arith, count_there)) ∙ ap (go_on (choose fuel.0 z room) (marks_in marks)) p
 
-    pub turn_on : (c : ℕ) (after : List ℕ) → count ≤ room → Picked z room (marks_in marks) (Some c) → c < n → c < length marks → get_or marks c false ≡ false
+    pub turn_on : (c x : ℕ) (after : List ℕ) → count ≤ room → Picked z room (marks_in marks) (Some (record { place = c; lines = x })) → c < n → c < length marks → get_or marks c false ≡ false
         → ((v : ℕ) → v < n → get_or after v 0 ≡ min (get_or away v 0) (apart n table c v)) → Choosing z room n table (set marks c true) after (count + 1)
-    turn_on c after h p cn cl f0 af =
+    turn_on c x after h p cn cl f0 af =
         let e : with_mark c (marks_in marks) ≡ marks_in (set marks c true) = sym (marks_with marks c cl) in
         let zn = g.aways.tabled.places in
         let w : count_below n (with_mark c (marks_in marks)) ≡ count + 1 = subst (λ m. count_below m (with_mark c (marks_in marks)) ≡ count_below m (marks_in marks) + 1) zn (with_count z (marks_in marks) c (omega arith) f0) ∙ ap (λ y. y + 1) g.counts in
         record {
           aways = subst (λ (l : Marks). Aways z l n table after) e (aways_more z (marks_in marks) n table away g.aways c after cn af);
           counts = subst (λ (l : Marks). count_below n l ≡ count + 1) e w;
-          rest = goes ∙ choose_on fuel.0 z room (marks_in marks) still (omega (arith, count_there)) ∙ ap (go_on (choose fuel.0 z room) (marks_in marks)) p.1
+          rest = goes ∙ choose_on fuel.0 z room (marks_in marks) still (omega (arith, count_there)) ∙ ap (go_on (choose fuel.0 z room) (marks_in marks)) p
               ∙ ap (λ k. choose k z room (with_mark c (marks_in marks))) fuel.2 ∙ ap (choose (room + 3 - (count + 1)) z room) e;
         }
 
     -- the post that most places are near has most lines
-    pub turn_crowd : (near : List ℕ) (crowd : Crowd) → Nears n table away near → length near ≡ n → Fullest near count crowd → Crowding z (marks_in marks) crowd
-    turn_crowd near crowd ns ln f =
+    pub turn_crowd : (crowd : Crowd) → length near ≡ n → Fullest near count crowd → Crowding z (marks_in marks) crowd
+    turn_crowd crowd ln f =
         let zn = g.aways.tabled.places in
         let pn : crowd.post < n = omega (arith, f.there) in
         let lines : (u : ℕ) → u < n → line_count z (marks_in marks) u + 1 ≡ count + get_or near u 0 = λ u un. lines_now z (marks_in marks) n table away g.aways count g.counts u un ∙ ap (λ x. count + x) (sym (ns u un)) in

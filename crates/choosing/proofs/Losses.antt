@@ -1,8 +1,9 @@
 -- What one landmark more takes away. Assumes nothing.
-use Rattle.std.proofs.Common.{◌≡◌, ℕ, ◌+◌, ◌-◌, ◌<◌, ◌≤◌, min, false, cond, ◌&&◌, ltb, leb, List, map, get_or, replicate, sym, refl, ap, ◌∙◌, inl, inr, arith}
+use Rattle.std.proofs.Common.{◌≡◌, ℕ, ◌+◌, ◌-◌, ◌<◌, ◌≤◌, min, false, cond, ◌&&◌, ltb, leb, List, All, map, length, get_or, replicate, sym, refl, ap, ◌∙◌, inl, inr, arith}
 use Rattle.std.specs.List.{range_with_len}
 use Rattle.std.proofs.lemmas.List.FromFn.{get_or-map-range_with_len}
 use Rattle.std.proofs.lemmas.List.{get_or-replicate}
+use Rattle.std.proofs.lemmas.Grind.{get_or_default_zero}
 use Rattle.std.proofs.lemmas.Bool.{cases_lt, lt-ltb, le-ltb, le-leb, lt-leb, and_right}
 use Rattle.ways.specs.Map.{Map}
 use Rattle.ways.specs.Ways.{count_below}
@@ -85,15 +86,15 @@ Fading n table away c v lost = (u : ℕ) → u < n → get_or lost u 0 ≡ lost_
 pub fading_start : (n : ℕ) (table away : List ℕ) (c m : ℕ) (lost : List ℕ) → m ≡ n → lost ≡ replicate m 0 → Fading n table away c 0 lost
 fading_start n table away c m lost ln e u un = ap (λ xs. get_or xs u 0) e ∙ get_or-replicate m u 0 0 (omega arith) ∙ sym (lost_zero n table away c u)
 
-pub fading_none : (n : ℕ) (table away : List ℕ) (c v : ℕ) (lost : List ℕ) → Fading n table away c v lost → get_or away v 0 ≤ apart n table c v → Fading n table away c (v + 1) lost
-fading_none n table away c v lost h le u un = omega (arith, h u un, lost_more n table away c u v, between_none (apart n table c v) (get_or away v 0) (apart n table v u) le)
+module _ (n : ℕ) (table away : List ℕ) (c v from : ℕ) (is : from ≡ apart n table c v) (lost : List ℕ) (h : Fading n table away c v lost) where
+  pub fading_none : get_or away v 0 ≤ from → Fading n table away c (v + 1) lost
+  fading_none le u un = omega (arith, h u un, lost_more n table away c u v, between_none (apart n table c v) (get_or away v 0) (apart n table v u) (omega arith))
 
-pub fading_some : (n : ℕ) (table away : List ℕ) (c v : ℕ) (lost after : List ℕ) → Fading n table away c v lost
-    → ((u : ℕ) → u < n → get_or after u 0 ≡ get_or lost u 0 + between01 (apart n table c v) (get_or away v 0) (apart n table v u)) → Fading n table away c (v + 1) after
-fading_some n table away c v lost after h af u un = omega (arith, h u un, lost_more n table away c u v, af u un)
+  pub fading_some : (after : List ℕ) → ((u : ℕ) → u < n → get_or after u 0 ≡ get_or lost u 0 + between01 from (get_or away v 0) (apart n table v u)) → Fading n table away c (v + 1) after
+  fading_some after af u un = omega (arith, h u un, lost_more n table away c u v, af u un, ap (λ k. between01 k (get_or away v 0) (apart n table v u)) is)
 
-pub fading_few : (n : ℕ) (table away : List ℕ) (c v : ℕ) (lost : List ℕ) → Fading n table away c v lost → v ≤ 512 → (u : ℕ) → u < n → get_or lost u 0 ≤ 512
-fading_few n table away c v lost h le u un = omega (arith, h u un, lost_most n table away c u v)
+pub fading_few : (n : ℕ) (table away : List ℕ) (c v : ℕ) (lost : List ℕ) → Fading n table away c v lost → v ≤ 512 → length lost ≡ n → All (λ x. x ≤ 512) lost
+fading_few n table away c v lost h le long u d un = omega (arith, get_or_default_zero lost u d un, h u (omega arith), lost_most n table away c u v)
 
-pub nears_few : (n : ℕ) (table away near : List ℕ) → Nears n table away near → n ≤ 512 → (u : ℕ) → u < n → get_or near u 0 ≤ 512
-nears_few n table away near h le u un = omega (arith, h u un, near_most n table away u)
+pub nears_few : (n : ℕ) (table away near : List ℕ) → Nears n table away near → n ≤ 512 → length near ≡ n → All (λ x. x ≤ 512) near
+nears_few n table away near h le long k d kn = omega (arith, get_or_default_zero near k d kn, h k (omega arith), near_most n table away k)

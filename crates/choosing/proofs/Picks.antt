@@ -1,27 +1,47 @@
 -- Looking for the best place, one after the other: what holds on the way. Assumes nothing.
-use Rattle.std.proofs.Common.{◌≡◌, ℕ, ◌+◌, ◌<◌, ◌≤◌, Bool, true, false, List, get_or, Some, None, Option, sym, refl, ap, ◌∙◌, subst, add-one, arith}
-use Rattle.std.proofs.lemmas.Bool.{lt-ltb, le-ltb}
+use Rattle.std.proofs.Common.{◌≡◌, ℕ, ◌+◌, ◌<◌, ◌≤◌, min, ltb, Bool, true, false, List, get_or, Some, None, Option, sym, refl, ap, ◌∙◌, subst, add-one, arith}
+use Rattle.std.proofs.lemmas.Bool.{both_ways, lt-ltb, le-ltb, ltb-true, ltb-false}
+use Rattle.std.specs.Option.{MatchOption}
 use Rattle.ways.specs.Map.{Map}
 use Rattle.ways.specs.Ways.{count_below}
 use Rattle.landmarks.specs.Landmarks.{Marks, marks_in}
 use Rattle.choosing.specs.Choosing.{above, with_mark, NoPlace, Place, or_better, best}
 use Rattle.choosing.specs.Tables.{Aways}
 use Rattle.choosing.specs.Turns.{read_best, Picked, Open}
+use Rattle.choosing.specs.declared.turn.Best.{Best}
 
--- ---- the best so far
-abbrev pub Unfound : Option ℕ → ℕ → Type 0
-Unfound None x = x ≡ 4294967295
-Unfound (Some c) x = Unit {0}
+-- x is fewer lines than those of the best so far, if any; and is no fewer
+abbrev pub Fewer : ℕ → Option Best → Type 0
+Fewer x None = Unit {0}
+Fewer x (Some b) = x < b.lines
 
-pub open_more : (marks : List Bool) (i : ℕ) (o : Option ℕ) → Open marks i o → Open marks (i + 1) o
+abbrev pub NoFewer : ℕ → Option Best → Type 0
+NoFewer x None = ⊥
+NoFewer x (Some b) = b.lines ≤ x
+
+-- what a test of the best so far says
+pub fewer : (o : Option Best) (x : ℕ) (r : Bool) → MatchOption o (r ≡ true) (λ b. r ≡ ltb x b.lines) → r ≡ true → Fewer x o
+fewer None x r h t = tt
+fewer (Some b) x r h t = ltb-true x b.lines (sym h ∙ t)
+
+pub no_fewer : (o : Option Best) (x : ℕ) (r : Bool) → MatchOption o (r ≡ true) (λ b. r ≡ ltb x b.lines) → r ≡ false → NoFewer x o
+no_fewer None x r h f = both_ways r f h
+no_fewer (Some b) x r h f = ltb-false x b.lines (sym h ∙ f)
+
+-- the same of a bound
+pub no_fewer_bound : (o : Option Best) (most total x : ℕ) (r : Bool) → MatchOption o (r ≡ true) (λ b. r ≡ ltb most (min (b.lines + total) 4294967295)) → r ≡ false → most < 4294967295 → most ≤ x + total → NoFewer x o
+no_fewer_bound None most total x r h f fits b = both_ways r f h
+no_fewer_bound (Some o) most total x r h f fits b = omega (arith, ltb-false most (min (o.lines + total) 4294967295) (sym h ∙ f))
+
+open_more : (marks : List Bool) (i : ℕ) (o : Option Best) → Open marks i o → Open marks (i + 1) o
 open_more marks i None h = h
-open_more marks i (Some c) h = (omega arith, h.1)
+open_more marks i (Some b) h = (omega arith, h.1)
 
-pub best_none : (z : Map) (room : ℕ) (l : Marks) → best z room l 0 ≡ NoPlace
+best_none : (z : Map) (room : ℕ) (l : Marks) → best z room l 0 ≡ NoPlace
 unfolding best
 best_none z room l = refl
 
-pub best_mark : (z : Map) (room : ℕ) (l : Marks) (i : ℕ) → l i ≡ true → best z room l (i + 1) ≡ best z room l i
+best_mark : (z : Map) (room : ℕ) (l : Marks) (i : ℕ) → l i ≡ true → best z room l (i + 1) ≡ best z room l i
 unfolding best
 best_mark z room l i t = rw (add-one, t) refl
 
@@ -29,51 +49,39 @@ best_open : (z : Map) (room : ℕ) (l : Marks) (i : ℕ) → l i ≡ false → b
 unfolding best
 best_open z room l i f = rw (add-one, f) refl
 
-takes : (o : Option ℕ) (y i x : ℕ) → x < y → or_better i x (read_best o y) ≡ Place i x
-takes None y i x h = refl
-takes (Some c) y i x h = rw (lt-ltb x y h) refl
+takes : (o : Option Best) (i x : ℕ) → Fewer x o → or_better i x (read_best o) ≡ Place i x
+takes None i x h = refl
+takes (Some b) i x h = rw (lt-ltb x b.lines h) refl
 
-stays : (o : Option ℕ) (y i x : ℕ) → Unfound o y → x < 4294967295 → y ≤ x → or_better i x (read_best o y) ≡ read_best o y
-stays None y i x u lt h = absurd (omega arith)
-stays (Some c) y i x u lt h = rw (le-ltb x y h) refl
-
-pub best_takes : (z : Map) (room : ℕ) (l : Marks) (i : ℕ) (o : Option ℕ) (y x : ℕ) → l i ≡ false → x ≡ above z room (with_mark i l) → best z room l i ≡ read_best o y → x < y → best z room l (i + 1) ≡ read_best (Some i) x
-best_takes z room l i o y x f e b h = best_open z room l i f ∙ ap (λ w. or_better i w (best z room l i)) (sym e) ∙ ap (or_better i x) b ∙ takes o y i x h
-
-pub best_stays : (z : Map) (room : ℕ) (l : Marks) (i : ℕ) (o : Option ℕ) (y x : ℕ) → l i ≡ false → x ≡ above z room (with_mark i l) → best z room l i ≡ read_best o y → Unfound o y → x < 4294967295 → y ≤ x → best z room l (i + 1) ≡ read_best o y
-best_stays z room l i o y x f e b u lt h = best_open z room l i f ∙ ap (λ w. or_better i w (best z room l i)) (sym e) ∙ ap (or_better i x) b ∙ stays o y i x u lt h
-
--- a place that needs no judging: it can't be better
-pub best_keeps : (z : Map) (room : ℕ) (l : Marks) (i d y : ℕ) → l i ≡ false → best z room l i ≡ Place d y → y ≤ above z room (with_mark i l) → best z room l (i + 1) ≡ Place d y
-best_keeps z room l i d y f b h = best_open z room l i f ∙ ap (or_better i (above z room (with_mark i l))) b ∙ rw (le-ltb (above z room (with_mark i l)) y h) refl
+stays : (o : Option Best) (i x : ℕ) → NoFewer x o → or_better i x (read_best o) ≡ read_best o
+stays None i x h = absurd h
+stays (Some b) i x h = rw (le-ltb x b.lines h) refl
 
 -- ---- the loop over places
-pub record Picking (n : ℕ) (table : List ℕ) (marks : List Bool) (away : List ℕ) (count room i : ℕ) (found : Option ℕ) (fewest : ℕ) : Type 0 where
-  pub so_far : (z : Map) → Aways z (marks_in marks) n table away → count_below n (marks_in marks) ≡ count → best z room (marks_in marks) i ≡ read_best found fewest
-  pub unfound : Unfound found fewest
+pub record Picking (n : ℕ) (table : List ℕ) (marks : List Bool) (away : List ℕ) (count room i : ℕ) (found : Option Best) : Type 0 where
+  pub so_far : (z : Map) → Aways z (marks_in marks) n table away → count_below n (marks_in marks) ≡ count → best z room (marks_in marks) i ≡ read_best found
   pub unmarked : Open marks i found
 
-pub picking_start : (n : ℕ) (table : List ℕ) (marks : List Bool) (away : List ℕ) (count room : ℕ) → Picking n table marks away count room 0 None 4294967295
-picking_start n table marks away count room = record { so_far = λ z a k. best_none z room (marks_in marks); unfound = refl; unmarked = tt }
+pub picking_start : (n : ℕ) (table : List ℕ) (marks : List Bool) (away : List ℕ) (count room : ℕ) → Picking n table marks away count room 0 None
+picking_start n table marks away count room = record { so_far = λ z a k. best_none z room (marks_in marks); unmarked = tt }
 
-module _ (n : ℕ) (table : List ℕ) (marks : List Bool) (away : List ℕ) (count room i : ℕ) (found : Option ℕ) (fewest : ℕ) (p : Picking n table marks away count room i found fewest) where
-  pub picking_mark : get_or marks i false ≡ true → Picking n table marks away count room (i + 1) found fewest
-  picking_mark t = record { so_far = λ z a k. best_mark z room (marks_in marks) i t ∙ p.so_far z a k; unfound = p.unfound; unmarked = open_more marks i found p.unmarked }
+module _ (n : ℕ) (table : List ℕ) (marks : List Bool) (away : List ℕ) (count room i : ℕ) (found : Option Best) (p : Picking n table marks away count room i found) where
+  pub picking_mark : get_or marks i false ≡ true → Picking n table marks away count room (i + 1) found
+  picking_mark t = record { so_far = λ z a k. best_mark z room (marks_in marks) i t ∙ p.so_far z a k; unmarked = open_more marks i found p.unmarked }
 
-  module _ (x : ℕ) (f : get_or marks i false ≡ false) (is : (z : Map) (l : Marks) → Aways z l n table away → count_below n l ≡ count → l i ≡ false → x ≡ above z room (with_mark i l)) where
-    pub picking_takes : x < fewest → Picking n table marks away count room (i + 1) (Some i) x
-    picking_takes h = record { so_far = λ z a k. best_takes z room (marks_in marks) i found fewest x f (is z (marks_in marks) a k f) (p.so_far z a k) h; unfound = tt; unmarked = (omega arith, f) }
+  module _ (f : get_or marks i false ≡ false) where
+    step : (z : Map) → Aways z (marks_in marks) n table away → count_below n (marks_in marks) ≡ count → best z room (marks_in marks) (i + 1) ≡ or_better i (above z room (with_mark i (marks_in marks))) (read_best found)
+    step z a k = best_open z room (marks_in marks) i f ∙ ap (or_better i (above z room (with_mark i (marks_in marks)))) (p.so_far z a k)
 
-    pub picking_stays : x < 4294967295 → fewest ≤ x → Picking n table marks away count room (i + 1) found fewest
-    picking_stays lt h = record { so_far = λ z a k. best_stays z room (marks_in marks) i found fewest x f (is z (marks_in marks) a k f) (p.so_far z a k) p.unfound lt h; unfound = p.unfound; unmarked = open_more marks i found p.unmarked }
+    module _ (x : ℕ) (is : (z : Map) (l : Marks) → Aways z l n table away → count_below n l ≡ count → l i ≡ false → x ≡ above z room (with_mark i l)) where
+      pub picking_takes : Fewer x found → Picking n table marks away count room (i + 1) (Some (record { place = i; lines = x }))
+      picking_takes h = record { so_far = λ z a k. step z a k ∙ ap (λ w. or_better i w (read_best found)) (sym (is z (marks_in marks) a k f)) ∙ takes found i x h; unmarked = (omega arith, f) }
 
-pub picking_skips : (n : ℕ) (table : List ℕ) (marks : List Bool) (away : List ℕ) (count room i : ℕ) (found : Option ℕ) (fewest : ℕ) → Picking n table marks away count room i found fewest
-    → get_or marks i false ≡ false → fewest < 4294967295 → ((z : Map) (l : Marks) → Aways z l n table away → count_below n l ≡ count → l i ≡ false → fewest ≤ above z room (with_mark i l))
-    → Picking n table marks away count room (i + 1) found fewest
-picking_skips n table marks away count room i None fewest p f lt h = absurd (let u = p.unfound in omega arith)
-picking_skips n table marks away count room i (Some d) fewest p f lt h = record { so_far = λ z a k. best_keeps z room (marks_in marks) i d fewest f (p.so_far z a k) (h z (marks_in marks) a k f); unfound = tt; unmarked = open_more marks i (Some d) p.unmarked }
+    -- a place that leaves no fewer lines, whether it was judged or not
+    pub picking_stays : ((z : Map) → Aways z (marks_in marks) n table away → count_below n (marks_in marks) ≡ count → NoFewer (above z room (with_mark i (marks_in marks))) found) → Picking n table marks away count room (i + 1) found
+    picking_stays h = record { so_far = λ z a k. step z a k ∙ stays found i (above z room (with_mark i (marks_in marks))) (h z a k); unmarked = open_more marks i found p.unmarked }
 
-pub picking_end : (n : ℕ) (table : List ℕ) (marks : List Bool) (away : List ℕ) (count room i : ℕ) (found : Option ℕ) (fewest : ℕ) → Picking n table marks away count room i found fewest → i ≡ n
+pub picking_end : (n : ℕ) (table : List ℕ) (marks : List Bool) (away : List ℕ) (count room i : ℕ) (found : Option Best) → Picking n table marks away count room i found → i ≡ n
     → ((z : Map) → Aways z (marks_in marks) n table away → count_below n (marks_in marks) ≡ count → Picked z room (marks_in marks) found) × Open marks n found
-picking_end n table marks away count room i found fewest p e =
-    (λ z a k. (fewest, let q : z.n ≡ i = a.tabled.places ∙ sym e in ap (best z room (marks_in marks)) q ∙ p.so_far z a k), subst (λ m. Open marks m found) e p.unmarked)
+picking_end n table marks away count room i found p e =
+    (λ z a k. (let q : z.n ≡ i = a.tabled.places ∙ sym e in ap (best z room (marks_in marks)) q ∙ p.so_far z a k), subst (λ m. Open marks m found) e p.unmarked)

@@ -1,10 +1,14 @@
 -- Losses as a range of an order. Assumes nothing.
-use Rattle.std.proofs.Common.{◌≡◌, ℕ, ◌+◌, ◌-◌, ◌<◌, ◌≤◌, min, false, leb, ◌≢◌, List, length, get_or, set, replicate, sym, refl, ap, ◌∙◌, subst, inl, inr, arith, get_or-set_other, get_or-set_same}
-use Rattle.std.proofs.lemmas.Bool.{cases_lt, cases_eq, lt-ltb, le-ltb, le-leb, lt-leb, and_right}
+use Rattle.std.proofs.Common.{◌≡◌, ℕ, ◌+◌, ◌-◌, ◌<◌, ◌≤◌, min, Bool, false, leb, ◌≢◌, List, length, get_or, set, replicate, reverse, take, sym, refl, ap, ◌∙◌, subst, inl, inr, arith, get_or-set_other, get_or-set_same}
+use Rattle.std.proofs.lemmas.Bool.{cases_lt, cases_eq, lt-ltb, le-ltb, le-leb, lt-leb, leb-true, leb-false, and_right}
 use Rattle.distances.specs.Orders.{Sorted, in_order}
 use Rattle.choosing.specs.Tables.{apart, between01}
 use Rattle.choosing.specs.Turns.{Ball, Outer, Balls, Outers}
-use Rattle.std.proofs.lemmas.List.{get_or-replicate}
+use Rattle.std.proofs.lemmas.List.{get_or-replicate, get_or-reverse, get_or-take, length-reverse}
+use Rattle.std.proofs.lemmas.List.Sums.{prefix_len-le-length, prefix_len_passes, prefix_len_stops}
+use Rattle.std.proofs.lemmas.List.Folds.{length-prefix_len}
+use Rattle.std.proofs.lemmas.Grind.{get_or_default_zero}
+use Rattle.std.specs.List.{prefix_len}
 
 between_in : (low high x : ℕ) → low ≤ x → x < high → between01 low high x ≡ 1
 between_in low high x p q = rw (le-leb low x p, lt-ltb x high q) refl
@@ -79,15 +83,53 @@ module _ (n : ℕ) (far seq : ℕ → ℕ) (s : Sorted n far seq) (from ball j :
   pub fades_few : 0 < j → ((u : ℕ) → u < n → get_or before u 0 ≤ 512) → get_or lost (seq (j - 1)) 0 ≤ 512
   fades_few pos h = omega (arith, f.losts (j - 1) (omega (arith, f.low)), h (seq (j - 1)) (s.inside (j - 1) (omega (arith, f.low))), between_under j ball (j - 1) (omega arith))
 
--- ---- what is near, in the order
-pub shrinks_more : (n : ℕ) (far seq : ℕ → ℕ) (to j : ℕ) → Outer n far seq to j → 0 < j → to ≤ far (seq (j - 1)) → Outer n far seq to (j - 1)
-shrinks_more n far seq to j o pos le = record { few = omega (arith, o.few); outer = λ i p q. elim (cases_eq i (j - 1)) [ inl e ↦ subst (λ y. to ≤ far (seq y)) (sym e) le | inr ne ↦ o.outer i (omega arith) q ] }
+-- ---- the end of a ball: its last places that are no closer than `to`, read from behind
+abbrev pub past : ℕ → List ℕ → ℕ → Bool
+past to row u = leb to (get_or row u 0)
 
-pub shrinks_stop : (n : ℕ) (far seq : ℕ → ℕ) (to j : ℕ) → Sorted n far seq → Outer n far seq to j → 0 < j → far (seq (j - 1)) < to → Ball n far seq to j
-shrinks_stop n far seq to j s o pos lt = record { few = o.few; inner = λ i h. omega (arith, s.rises i (j - 1) (omega arith) (omega (arith, o.few))); outer = o.outer }
+abbrev pub outside : ℕ → List ℕ → List ℕ → ℕ
+outside to row order = prefix_len (past to row) (reverse order)
 
-pub shrinks_none : (n : ℕ) (far seq : ℕ → ℕ) (to j : ℕ) → Outer n far seq to j → j ≡ 0 → Ball n far seq to j
-shrinks_none n far seq to j o e = record { few = o.few; inner = λ i h. absurd (omega arith); outer = o.outer }
+pub length-outside : (to : ℕ) (row order : List ℕ) → length (take (outside to row order) (reverse order)) ≡ outside to row order
+length-outside to row order = length-prefix_len (past to row) (reverse order)
+
+module _ (n : ℕ) (far seq : ℕ → ℕ) (s : Sorted n far seq) (to : ℕ) (row order : List ℕ) (few : length order ≤ n) (is : (u : ℕ) → u < n → get_or row u 0 ≡ far u) (first : (j : ℕ) → j < length order → get_or order j 0 ≡ seq j) where
+  behind : (k : ℕ) → k < length order → get_or (reverse order) k 0 ≡ seq (length order - 1 - k)
+  behind k h = get_or-reverse order k 0 h ∙ first (length order - 1 - k) (omega arith)
+
+  reads : (k : ℕ) → k < length order → past to row (get_or (reverse order) k 0) ≡ leb to (far (seq (length order - 1 - k)))
+  reads k h = ap (past to row) (behind k h) ∙ ap (leb to) (is (seq (length order - 1 - k)) (s.inside (length order - 1 - k) (omega arith)))
+
+  outside_few : outside to row order ≤ length order
+  outside_few = omega (arith, prefix_len-le-length (past to row) (reverse order), length-reverse order)
+
+  pub outside_past : (j : ℕ) → length order - outside to row order ≤ j → j < length order → to ≤ far (seq j)
+  outside_past j p q =
+      let k : ◌≡◌ {A = ℕ} (length order - 1 - (length order - 1 - j)) j = omega arith in
+      subst (λ i. to ≤ far (seq i)) k (leb-true to (far (seq (length order - 1 - (length order - 1 - j)))) (sym (reads (length order - 1 - j) (omega arith))
+      ∙ prefix_len_passes (past to row) (reverse order) (length order - 1 - j) 0 (omega (arith, outside_few))))
+
+  pub outside_stop : (j : ℕ) → j < length order - outside to row order → far (seq j) < to
+  outside_stop j p =
+      let m = outside to row order in
+      let stop : far (seq (length order - 1 - m)) < to = leb-false to (far (seq (length order - 1 - m))) (sym (reads m (omega arith)) ∙ prefix_len_stops (past to row) (reverse order) 0 (omega (arith, length-reverse order))) in
+      omega (arith, s.rises j (length order - 1 - m) (omega arith) (omega arith))
+
+  -- the place that comes after k places from behind
+  pub outside_turn : (k u : ℕ) → k < length (take (outside to row order) (reverse order)) → u ≡ get_or (take (outside to row order) (reverse order)) k u → (k < length order) × (u ≡ seq (length order - k - 1)) × (to ≤ far u)
+  outside_turn k u h e =
+      let few-out = outside_few in
+      let lt : k < outside to row order = omega (arith, length-prefix_len (past to row) (reverse order)) in
+      let i : length order - 1 - k ≡ length order - k - 1 = omega arith in
+      let at : u ≡ seq (length order - k - 1) = e ∙ get_or-take (outside to row order) (reverse order) k u lt ∙ get_or_default_zero (reverse order) k u (omega (arith, length-reverse order)) ∙ behind k (omega arith) ∙ ap seq i in
+      (omega arith, at, subst (λ x. to ≤ far x) (sym at) (outside_past (length order - k - 1) (omega arith) (omega arith)))
+
+  pub shrunk : Outer n far seq to (length order) → Ball n far seq to (length order - outside to row order)
+  shrunk o = record {
+    few = omega arith;
+    inner = outside_stop;
+    outer = λ j p q. elim (cases_lt j (length order)) [ inl h ↦ outside_past j p h | inr h ↦ o.outer j h q ];
+  }
 
 -- closer landmarks
 outer_lower : (n : ℕ) (far seq : ℕ → ℕ) (to less ball : ℕ) → Ball n far seq to ball → less ≤ to → Outer n far seq less ball

@@ -5,12 +5,12 @@ use Rattle.ways.specs.Ways.{Joined, hangs_together}
 use Rattle.ways.proofs.Hanging.{hanging_together}
 use Rattle.ways.proofs.Metric.{symmetric}
 use Rattle.maps.specs.Charts.{ground_of}
+use Rattle.distances.specs.Orders.{Whole}
 use Rattle.distances.specs.Rows.{far_number}
 use Rattle.distances.specs.declared.survey.Survey.{Survey}
-use Rattle.distances.proofs.Ranks.{survey_orders}
 use Rattle.distances.proofs.Surveyed.{ground_few, ground_both, ground_fits}
 use Rattle.choosing.specs.Tables.{apart, Table}
-use Rattle.choosing.specs.Turns.{Orders}
+use Rattle.choosing.specs.Turns.{Ranked}
 
 module _ (s : Survey) (h : hangs_together (ground_of s.map) ≡ true) where
   pub survey_joined : Joined (ground_of s.map)
@@ -32,5 +32,13 @@ module _ (s : Survey) (h : hangs_together (ground_of s.map) ≡ true) where
   reached : (v u : ℕ) → v < s.map.n → u < s.map.n → get_or (vec_items s.dist) (v * s.map.n + u) 0 < 4294967295
   reached v u vn un = ground_fits s.map v u (apart s.map.n (vec_items s.dist) v u) vn un (survey_is v u vn un)
 
-  pub survey_sorted : Orders s.map.n (vec_items s.dist) (vec_items s.order)
-  survey_sorted v vn = survey_orders s v vn (λ u un. reached v u vn un)
+  pub survey_ranked : Ranked s.map.n (vec_items s.dist) (vec_items s.order)
+  survey_ranked v vn =
+      let whole : Whole s.map.n (vec_items s.dist) v = (vn, λ u un. reached v u vn un) in
+      record {
+        inside = λ j h. s.inside v j (whole, h);
+        there = λ u h. s.there v u (whole, h);
+        back = λ u h. s.back v u (whole, h);
+        forth = λ j h. s.forth v j (whole, h);
+        rises = λ i j l h. s.rises v i j (whole, l, h);
+      }

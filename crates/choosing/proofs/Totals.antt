@@ -11,7 +11,7 @@ use Rattle.ways.specs.Map.{Map}
 use Rattle.ways.specs.Ways.{count_below}
 use Rattle.landmarks.specs.Landmarks.{Marks}
 use Rattle.choosing.specs.Choosing.{sum_below, above, with_mark}
-use Rattle.choosing.specs.Tables.{apart, Aways, Nears, lost_below, loss_at, Bounds, Hots, most_below}
+use Rattle.choosing.specs.Tables.{apart, Aways, Nears, lost_below, loss_at, Bounds, Hots, over_below, weight}
 use Rattle.choosing.specs.Turns.{Ball}
 use Rattle.choosing.proofs.Sums.{sum_more, sum_zero, sum_same, sum_within, sum_none, sum_plus, sum_swap, count_sum, permuted, left_least}
 use Rattle.choosing.proofs.Losses.{judged_lost}
@@ -212,15 +212,15 @@ module _ (n : ℕ) (table away : List ℕ) (c : ℕ) (cn : c < n) (both : (v u :
       ∙ sum_swap n n (λ u v. cond (leb (apart n table v c) (apart n table v u) && ltb (apart n table v u) (get_or away v 0)) (w u) 0)
 
 -- no candidate leaves fewer lines above room than all there are, but for what it takes away where they count
-pub bounded : (z : Map) (l : Marks) (n : ℕ) (table away near hot total : List ℕ) (count room c : ℕ) → Aways z l n table away → count_below n l ≡ count → l c ≡ false → c < n
+pub bounded : (z : Map) (l : Marks) (n : ℕ) (table away near : List ℕ) (hot : List Bool) (total : List ℕ) (count room c : ℕ) → Aways z l n table away → count_below n l ≡ count → l c ≡ false → c < n
     → Nears n table away near → Hots n near count room hot → Bounds n table away hot total
-    → most_below near count room n ≤ above z room (with_mark c l) + get_or total c 0
+    → over_below near (count + 1) room n ≤ above z room (with_mark c l) + get_or total c 0
 bounded z l n table away near hot total count room c a k f cn ns hs bs =
     omega (
       arith,
       left_least n (λ u. (count + 1 + get_or near u 0) - (room + 1)) (λ u. lost_below n table away c u n),
       sum_same n (λ u. cond (ltb 0 ((count + 1 + get_or near u 0) - (room + 1))) (lost_below n table away c u n) 0) (λ u. cond (ltb room (count + get_or near u 0)) (lost_below n table away c u n) 0) (λ u un. ap (λ t. cond t (lost_below n table away c u n) 0) (test u)),
-      losses_all n table away c cn a.tabled.both (λ u. ltb room (count + get_or near u 0)) (λ u. get_or hot u 0) hs,
+      losses_all n table away c cn a.tabled.both (λ u. ltb room (count + get_or near u 0)) (weight hot) (λ u un. ap (λ b. cond b 1 0) (hs u un)),
       bs c cn,
       sum_same n (λ u. ((count + 1 + get_or near u 0) - (room + 1)) - lost_below n table away c u n) (λ u. (count + 1 + get_or near u 0) - (lost_below n table away c u n + (room + 1))) (λ u un. omega arith),
       judged_lost z l n table away near count room c a k f cn ns,

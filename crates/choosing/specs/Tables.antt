@@ -5,7 +5,7 @@
 --   away    how far each place is from its landmark
 --   near    how many places are closer to a place than to their landmarks; the place itself is one of them, unless it is a landmark
 --   lost    how many of these a landmark more takes away
-use Rattle.std.specs.Prelude.{◌≡◌, ℕ, ◌+◌, ◌-◌, ◌*◌, ◌<◌, ◌≤◌, cond, ◌&&◌, ltb, List, nat_le, nat_lt, slice_index}
+use Rattle.std.specs.Prelude.{◌≡◌, ℕ, ◌+◌, ◌-◌, ◌*◌, ◌<◌, ◌≤◌, cond, ◌&&◌, ltb, Bool, false, List, nat_le, nat_lt, slice_index, slice_index_or}
 use Rattle.choosing.specs.Choosing.{sum_below}
 use Rattle.landmarks.specs.Landmarks.{Marks, away_of, mark_of}
 use Rattle.ways.specs.Map.{Map, At, far}
@@ -39,8 +39,8 @@ Nears n table away near = (u : ℕ) → u < n → slice_index near u ≡ near_to
 
 -- lines above room, over the posts below k, with so many landmarks: a post has a line for each landmark and for each place that is near, but
 -- not for its own place, which is one of these
-abbrev pub over_below : ℕ → List ℕ → List ℕ → ℕ → ℕ → ℕ → ℕ
-over_below n table away count room k = sum_below k (λ u. (count + near_to n table away u) - (room + 1))
+abbrev pub over_below : List ℕ → ℕ → ℕ → ℕ → ℕ
+over_below near count room k = sum_below k (λ u. (count + slice_index near u) - (room + 1))
 
 -- 1 from `low` on and before `high`, else 0
 abbrev pub between01 : ℕ → ℕ → ℕ → ℕ
@@ -58,14 +58,14 @@ left_below near lost count room k = sum_below k (λ u. (count + slice_index near
 abbrev pub loss_at : ℕ → List ℕ → List ℕ → (ℕ → ℕ) → ℕ → ℕ → ℕ
 loss_at n table away w v c = sum_below n (λ u. cond (nat_le (apart n table v c) (apart n table v u) && nat_lt (apart n table v u) (slice_index away v)) (w u) 0)
 
+-- how much a post counts by a list that says which posts do
+abbrev pub weight : List Bool → ℕ → ℕ
+weight hot u = cond (slice_index_or hot u false) 1 0
+
 -- total has for each place at least what it would take away as a landmark, at the posts that count
-abbrev pub Bounds : ℕ → List ℕ → List ℕ → List ℕ → List ℕ → Type 0
-Bounds n table away hot total = (c : ℕ) → c < n → sum_below n (λ v. loss_at n table away (λ u. slice_index hot u) v c) ≤ slice_index total c
+abbrev pub Bounds : ℕ → List ℕ → List ℕ → List Bool → List ℕ → Type 0
+Bounds n table away hot total = (c : ℕ) → c < n → sum_below n (λ v. loss_at n table away (weight hot) v c) ≤ slice_index total c
 
 -- the posts that count: those that would have more lines than room with one landmark more that takes nothing away
-abbrev pub Hots : ℕ → List ℕ → ℕ → ℕ → List ℕ → Type 0
-Hots n near count room hot = (u : ℕ) → u < n → slice_index hot u ≡ cond (nat_lt room (count + slice_index near u)) 1 0
-
--- the lines above room with one landmark more that takes nothing away
-abbrev pub most_below : List ℕ → ℕ → ℕ → ℕ → ℕ
-most_below near count room k = sum_below k (λ u. (count + 1 + slice_index near u) - (room + 1))
+abbrev pub Hots : ℕ → List ℕ → ℕ → ℕ → List Bool → Type 0
+Hots n near count room hot = (u : ℕ) → u < n → slice_index_or hot u false ≡ nat_lt room (count + slice_index near u)

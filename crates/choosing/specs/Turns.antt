@@ -2,13 +2,13 @@
 --
 -- Glossary
 --   ball     how many places are closer to a place than its landmark is: the first so many of its order
---   Ready    what a turn goes by is in order
+--   Ranked   each row has each place once, the closest first
 --   Picked   the place after which the lines above room are fewest, if any place is left
-use Rattle.std.specs.Prelude.{◌≡◌, ℕ, ◌*◌, ◌<◌, ◌≤◌, Bool, false, List, length, Some, None, Option, slice_index, slice_index_or}
+use Rattle.std.specs.Prelude.{◌≡◌, ℕ, ◌<◌, ◌≤◌, Bool, false, List, Some, None, Option, slice_index, slice_index_or}
 use Rattle.choosing.specs.Choosing.{Best, NoPlace, Place, best}
-use Rattle.choosing.specs.Tables.{apart, Nears}
-use Rattle.choosing.specs.declared.turn.Turn.{Turn}
-use Rattle.distances.specs.Orders.{Sorted, in_order}
+use Rattle.choosing.specs.Tables.{apart}
+use Rattle.choosing.specs.declared.turn.Best.{Best as Best₀}
+use Rattle.distances.specs.Orders.{Sorted, in_order, rank_in}
 use Rattle.landmarks.specs.Landmarks.{Marks}
 use Rattle.ways.specs.Map.{Map}
 
@@ -41,27 +41,25 @@ Balls n table order away ball = (v : ℕ) → v < n → BallAt n table order v (
 abbrev pub Outers : ℕ → List ℕ → List ℕ → List ℕ → List ℕ → Type 0
 Outers n table order away ball = (v : ℕ) → v < n → OuterAt n table order v (slice_index away v) (slice_index ball v)
 
-pub record Ready (t : Turn) : Type 0 where
-  pub few : t.n ≤ 512
-  pub long : length t.table.now ≡ t.n * t.n
-  pub orders : length t.order.now ≡ t.n * t.n
-  pub aways : length t.away.now ≡ t.n
-  pub balls : length t.ball.now ≡ t.n
-  pub nears : length t.near.now ≡ t.n
-  pub counts : t.count < 512
-  pub rooms : t.room ≤ 255
-  pub sorted : Orders t.n t.table.now t.order.now
-  pub ball_is : Balls t.n t.table.now t.order.now t.away.now t.ball.now
-  pub near_is : Nears t.n t.table.now t.away.now t.near.now
+pub record RankedAt (n : ℕ) (table order : List ℕ) (v : ℕ) : Type 0 where
+  pub inside : (j : ℕ) → j < n → in_order n order v j < n
+  pub there : (u : ℕ) → u < n → rank_in n order v u < n
+  pub back : (u : ℕ) → u < n → in_order n order v (rank_in n order v u) ≡ u
+  pub forth : (j : ℕ) → j < n → rank_in n order v (in_order n order v j) ≡ j
+  pub rises : (i j : ℕ) → i ≤ j → j < n → apart n table v (in_order n order v i) ≤ apart n table v (in_order n order v j)
 
-abbrev pub read_best : Option ℕ → ℕ → Best
-read_best None x = NoPlace
-read_best (Some c) x = Place c x
+abbrev pub Ranked : ℕ → List ℕ → List ℕ → Type 0
+Ranked n table order = (v : ℕ) → v < n → RankedAt n table order v
 
-abbrev pub Picked : Map → ℕ → Marks → Option ℕ → Type 0
-Picked z room l r = (x : ℕ) × (best z room l z.n ≡ read_best r x)
+abbrev pub read_best : Option Best₀ → Best
+read_best None = NoPlace
+read_best (Some b) = Place b.place b.lines
+
+-- the best place, or none if none is left
+abbrev pub Picked : Map → ℕ → Marks → Option Best₀ → Type 0
+Picked z room l r = best z room l z.n ≡ read_best r
 
 -- a place below i that is no landmark, if any
-abbrev pub Open : List Bool → ℕ → Option ℕ → Type 0
+abbrev pub Open : List Bool → ℕ → Option Best₀ → Type 0
 Open marks i None = Unit {0}
-Open marks i (Some c) = (c < i) × (slice_index_or marks c false ≡ false)
+Open marks i (Some b) = (b.place < i) × (slice_index_or marks b.place false ≡ false)

@@ -3,87 +3,70 @@
 // A place that can't do better than one that was judged needs no judging. What a place takes away counts only at posts that have more lines
 // than room; for those it is added up over all balls, in one pass over each: for a place of the ball, all such posts of the ball but those
 // that are closer.
-ghost use Rattle.std.specs.Prelude.{◌≡◌, ℕ, ◌+◌, ◌*◌, ◌<◌, ◌≤◌, cond, length, slice_index};
+ghost use Rattle.std.specs.Prelude.{◌≡◌, ℕ, ◌+◌, ◌*◌, ◌<◌, ◌≤◌, length, slice_index};
 ghost use Rattle.choosing.specs.Choosing.{sum_below};
-ghost use Rattle.choosing.specs.Tables.{Bounds, Hots, loss_at, most_below};
-ghost use Rattle.choosing.specs.Turns.{Ready};
+ghost use Rattle.choosing.specs.Tables.{Bounds, Hots, loss_at, weight};
 ghost use Rattle.distances.specs.Orders.{in_order};
 
 use super::turn::Turn;
 
-/// Marks with 1 the posts that would have more lines than room with one landmark more that takes nothing away, the others with 0; says by how many
-/// lines in all.
-pub(crate) fn heat(turn: &Turn<'_>, hot: &mut [u32]) -> u32
-    requires ready { Ready turn.now }
-    requires hots { length hot.old ≡ turn.now.n }
-    ensures is { result ≡ most_below turn.now.near.now turn.now.count turn.now.room turn.now.n }
-    ensures small { result ≤ 1024 * turn.now.n }
-    ensures hot { Hots turn.now.n turn.now.near.now turn.now.count turn.now.room hot.new }
-{
-    let mut sum: u32 = 0;
-    for u in 0..turn.n {
-        let over = (turn.count + 1 + turn.near[u]).saturating_sub(turn.room + 1);
-        hot[u] = if over > 0 { 1 } else { 0 };
-        sum += over;
-    }
-    sum
-}
-
-/// How many of the posts that count are in the ball of `v`.
-fn hot_in_ball(turn: &Turn<'_>, v: usize, hot: &[u32]) -> u32
-    requires ready { Ready turn.now }
-    requires there { v < turn.now.n }
-    requires hots { length hot.now ≡ turn.now.n }
-    requires ones { (u : ℕ) → u < turn.now.n → slice_index hot.now u ≤ 1 }
-    ensures is { result ≡ sum_below (slice_index turn.now.ball.now v) (λ i. slice_index hot.now (in_order turn.now.n turn.now.order.now v i)) }
-    ensures small { result ≤ 512 }
-{
-    let start = v * turn.n;
-    let mut sum: u32 = 0;
-    for j in 0..turn.ball[v] as usize {
-        sum += hot[turn.order[start + j] as usize];
-    }
-    sum
-}
-
-/// Adds to each place what it would take away of `v`, if it were a landmark: the posts that count in the ball of `v`, but for those that are closer.
-fn gather(turn: &Turn<'_>, v: usize, hot: &[u32], total: &mut [u32])
-    requires ready { Ready turn.now }
-    requires there { v < turn.now.n }
-    requires hots { length hot.now ≡ turn.now.n }
-    requires ones { (u : ℕ) → u < turn.now.n → slice_index hot.now u ≤ 1 }
-    requires totals { length total.old ≡ turn.now.n }
-    requires low { (c : ℕ) → c < turn.now.n → slice_index total.old c ≤ 512 * 512 }
-    ensures least { (c : ℕ) → c < turn.now.n → slice_index total.old c + loss_at turn.now.n turn.now.table.now turn.now.away.now (λ u. slice_index hot.now u) v c ≤ slice_index total.new c }
-    ensures most { (c : ℕ) → c < turn.now.n → slice_index total.new c ≤ slice_index total.old c + 512 }
-{
-    let start = v * turn.n;
-    let all = hot_in_ball(turn, v, hot);
-    let mut passed: u32 = 0;
-    let mut closer: u32 = 0;
-    let mut last: u32 = 0;
-    for j in 0..turn.ball[v] as usize {
-        let c = turn.order[start + j] as usize;
-        let far = turn.table[start + c];
-        if far > last {
-            closer = passed;
-            last = far;
+impl Turn<'_> {
+    /// Marks the posts that would have more lines than room with one landmark more that takes nothing away: these count.
+    pub(crate) fn heat(&self, hot: &mut [bool])
+        requires { length hot.old ≡ self.now.map.rows.n }
+        ensures { Hots self.now.map.rows.n self.now.near.now self.now.count self.now.room hot.new }
+    {
+        for (u, near) in self.near.iter().enumerate() {
+            hot[u] = self.count + *near > self.room;
         }
-        total[c] += all - closer;
-        passed += hot[c];
     }
-}
 
-/// Writes for each place how much it would take away at the most, if it were a landmark, at the posts that count.
-pub(crate) fn bound(turn: &Turn<'_>, hot: &[u32], total: &mut [u32])
-    requires ready { Ready turn.now }
-    requires hots { length hot.now ≡ turn.now.n }
-    requires ones { (u : ℕ) → u < turn.now.n → slice_index hot.now u ≤ 1 }
-    requires totals { length total.old ≡ turn.now.n }
-    ensures { Bounds turn.now.n turn.now.table.now turn.now.away.now hot.now total.new }
-{
-    total.fill(0);
-    for v in 0..turn.n {
-        gather(turn, v, hot, total);
+    /// How many of the posts that count are in the ball of `v`.
+    fn hot_in_ball(&self, v: usize, hot: &[bool]) -> u32
+        requires there { v < self.now.map.rows.n }
+        requires hots { length hot.now ≡ self.now.map.rows.n }
+        ensures is { result ≡ sum_below (slice_index self.now.ball.now v) (λ i. weight hot.now (in_order self.now.map.rows.n self.now.map.rows.order.now v i)) }
+        ensures small { result ≤ 512 }
+    {
+        let ball = self.map.closest(v, self.ball[v] as usize);
+        ball.iter().filter(|u| hot[**u as usize]).count() as u32
+    }
+
+    /// Adds to each place what it would take away of `v`, if it were a landmark: the posts that count in the ball of `v`, but for those that are closer.
+    fn gather(&self, v: usize, hot: &[bool], total: &mut [u32])
+        requires there { v < self.now.map.rows.n }
+        requires hots { length hot.now ≡ self.now.map.rows.n }
+        requires totals { length total.old ≡ self.now.map.rows.n }
+        requires low { (c : ℕ) → c < self.now.map.rows.n → slice_index total.old c ≤ 512 * 512 }
+        ensures least { (c : ℕ) → c < self.now.map.rows.n → slice_index total.old c + loss_at self.now.map.rows.n self.now.map.rows.dist.now self.now.away.now (weight hot.now) v c ≤ slice_index total.new c }
+        ensures most { (c : ℕ) → c < self.now.map.rows.n → slice_index total.new c ≤ slice_index total.old c + 512 }
+    {
+        let dists = self.map.dists(v);
+        let all = self.hot_in_ball(v, hot);
+        let mut passed: u32 = 0;
+        let mut closer: u32 = 0;
+        let mut last: u32 = 0;
+        for c in self.map.closest(v, self.ball[v] as usize) {
+            let c = *c as usize;
+            let far = dists[c];
+            if far > last {
+                closer = passed;
+                last = far;
+            }
+            total[c] += all - closer;
+            passed += u32::from(hot[c]);
+        }
+    }
+
+    /// Writes for each place how much it would take away at the most, if it were a landmark, at the posts that count.
+    pub(crate) fn bound(&self, hot: &[bool], total: &mut [u32])
+        requires hots { length hot.now ≡ self.now.map.rows.n }
+        requires totals { length total.old ≡ self.now.map.rows.n }
+        ensures { Bounds self.now.map.rows.n self.now.map.rows.dist.now self.now.away.now hot.now total.new }
+    {
+        total.fill(0);
+        for v in 0..self.map.rows.n {
+            self.gather(v, hot, total);
+        }
     }
 }

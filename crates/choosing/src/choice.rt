@@ -2,17 +2,13 @@
 ghost use Rattle.std.specs.Prelude.{◌≡◌, ℕ, ◌<◌, ◌≤◌, length};
 ghost use Rattle.choosing.specs.Chosen.{Chose, Stopped};
 ghost use Rattle.choosing.specs.Tables.{Table};
-ghost use Rattle.choosing.specs.Turns.{Orders};
 ghost use Rattle.maps.specs.Charts.{ground_of};
 ghost use Rattle.ways.specs.Map.{Map};
 
-use super::balls::shrink_all;
-use super::counting::{count_near, lower};
+use super::counting::{above, lower};
 use super::crowding::fullest;
 use super::kinds::{Crowd, Unchosen};
-use super::picking::pick;
-use super::turn::Turn;
-use distances::lent::Rows;
+use super::turn::{Ordered, Turn};
 use distances::survey::Survey;
 use distances::unreached::unreached;
 use std::alloc::Global;
@@ -20,69 +16,64 @@ use std::alloc::Global;
 /// Chooses landmarks by a table of distances, or says which post is too full with those at which the rule gave up. `marks` is left with the landmarks,
 /// the other memory with what was worked out from them.
 fn choose_by(
-    rows: &Rows<'_>,
+    map: &Ordered<'_>,
     room: u32,
     marks: &mut [bool],
     away: &mut [u32],
     ball: &mut [u32],
     near: &mut [u32],
 ) -> Result<(), Crowd>
-    requires marks { length marks.old ≡ rows.now.n }
-    requires aways { length away.old ≡ rows.now.n }
-    requires balls { length ball.old ≡ rows.now.n }
-    requires nears { length near.old ≡ rows.now.n }
+    requires marks { length marks.old ≡ map.now.rows.n }
+    requires aways { length away.old ≡ map.now.rows.n }
+    requires balls { length ball.old ≡ map.now.rows.n }
+    requires nears { length near.old ≡ map.now.rows.n }
     requires rooms { room ≤ 255 }
-    requires sorted { Orders rows.now.n rows.now.dist.now rows.now.order.now }
-    ensures { (z : Map) → Table z rows.now.n rows.now.dist.now → Stopped z room marks.new result }
+    ensures { (z : Map) → Table z map.now.rows.n map.now.rows.dist.now → Stopped z room marks.new result }
 {
-    let n = rows.n;
     marks.fill(false);
     marks[0] = true;
-    away.copy_from_slice(&rows.dist[0..n]);
-    ball.fill(n as u32);
+    away.copy_from_slice(map.dists(0));
+    ball.fill(map.rows.n as u32);
     let mut count: u32 = 1;
     'choosing: loop {
-        let above = count_near(rows.dist, n, away, count, room, near);
-        if above == 0 {
+        map.count_near(away, near);
+        if above(near, count, room) == 0 {
             break 'choosing;
         }
         if count > room {
             return Err(fullest(near, count));
         }
-        shrink_all(rows.dist, rows.order, n, away, ball);
+        map.shrink_all(away, ball);
         let turn = Turn {
-            n,
-            table: rows.dist,
-            order: rows.order,
+            map: *map,
             away,
             ball,
             near,
             count,
             room,
         };
-        let Some(c) = pick(&turn, marks) else {
+        let Some(best) = turn.pick(marks) else {
             return Err(fullest(near, count));
         };
-        marks[c] = true;
-        lower(&rows.dist[c * n..c * n + n], away);
+        marks[best.place] = true;
+        lower(map.dists(best.place), away);
         count += 1;
     }
     Ok(())
 }
 
 /// The same in memory of its own.
-fn choose_on(rows: &Rows<'_>, room: u32, marks: &mut [bool]) -> Result<(), Crowd>
-    requires marks { length marks.old ≡ rows.now.n }
+fn choose_on(map: &Ordered<'_>, room: u32, marks: &mut [bool]) -> Result<(), Crowd>
+    requires marks { length marks.old ≡ map.now.rows.n }
     requires rooms { room ≤ 255 }
-    requires sorted { Orders rows.now.n rows.now.dist.now rows.now.order.now }
-    ensures { (z : Map) → Table z rows.now.n rows.now.dist.now → Stopped z room marks.new result }
+    ensures { (z : Map) → Table z map.now.rows.n map.now.rows.dist.now → Stopped z room marks.new result }
 {
     let mut away = [0u32; 512];
     let mut ball = [0u32; 512];
     let mut near = [0u32; 512];
-    let n = rows.n;
+    let n = map.rows.n;
     choose_by(
-        rows,
+        map,
         room,
         marks,
         &mut away[0..n],
@@ -101,10 +92,10 @@ pub fn choose(heap: Global, survey: &Survey, room: u8) -> Result<Vec<bool>, Unch
     if let Some(place) = unreached(&survey.map().map()) {
         return Err(Unchosen::Apart(place));
     }
-    let rows = survey.rows();
-    let mut marks = vec![in heap; false; rows.n]?;
-    match choose_on(&rows, room as u32, &mut marks) {
-        Ok(()) => Ok(marks),
-        Err(crowd) => Err(Unchosen::Crowded(crowd)),
-    }
+    let map = Ordered {
+        rows: survey.rows(),
+    };
+    let mut marks = vec![in heap; false; map.rows.n]?;
+    choose_on(&map, u32::from(room), &mut marks)?;
+    Ok(marks)
 }

@@ -1,5 +1,5 @@
 // The post with most lines.
-ghost use Rattle.std.specs.Prelude.{◌≡◌, ℕ, ◌<◌, ◌≤◌, length, slice_index};
+ghost use Rattle.std.specs.Prelude.{◌<◌, ◌≤◌, All, length};
 ghost use Rattle.choosing.specs.Chosen.{Fullest};
 
 use super::kinds::Crowd;
@@ -8,14 +8,14 @@ use super::kinds::Crowd;
 pub(crate) fn fullest(near: &[u32], count: u32) -> Crowd
     requires some { 0 < length near.now }
     requires few { length near.now ≤ 512 }
-    requires nears { (u : ℕ) → u < length near.now → slice_index near.now u ≤ 512 }
+    requires nears { All (λ x. x ≤ 512) near.now }
     requires counted { 0 < count }
     requires counts { count ≤ 512 }
     ensures { Fullest near.now count result }
 {
     let mut post: usize = 0;
-    for u in 0..near.len() {
-        if near[u] > near[post] {
+    for (u, here) in near.iter().enumerate() {
+        if *here > near[post] {
             post = u;
         }
     }

@@ -1,14 +1,21 @@
 // What one turn of choosing goes by.
+ghost use Rattle.std.specs.Prelude.{◌≡◌, ℕ, ◌<◌, ◌≤◌, All, length};
+ghost use Rattle.choosing.specs.Tables.{Nears};
+ghost use Rattle.choosing.specs.Turns.{Balls, Ranked};
 
-/// All distances and orders of a map, and what the landmarks chosen so far make of them, place by place.
+use distances::lent::Rows;
+
+/// The rows of a map that hangs together: how far all places are from each, and all places in the order of their distances from it.
+#[derive(Clone, Copy)]
+pub(crate) struct Ordered<'a> {
+    pub(crate) rows: Rows<'a>,
+    ghost sorted: { Ranked rows.n rows.dist.now rows.order.now },
+}
+
+/// The rows of a map, and what the landmarks chosen so far make of them, place by place.
 #[derive(Clone, Copy)]
 pub(crate) struct Turn<'a> {
-    /// How many places there are.
-    pub(crate) n: usize,
-    /// How far all places are from each, row by row.
-    pub(crate) table: &'a [u32],
-    /// All places in the order of their distances from each, row by row.
-    pub(crate) order: &'a [u16],
+    pub(crate) map: Ordered<'a>,
     /// How far each place is from its landmark.
     pub(crate) away: &'a [u32],
     /// How many places are closer to each place than its landmark is: the first so many of its order.
@@ -19,4 +26,19 @@ pub(crate) struct Turn<'a> {
     pub(crate) count: u32,
     /// For how many lines a post has room.
     pub(crate) room: u32,
+    ghost aways: { length away.now ≡ map.rows.n },
+    ghost balls: { length ball.now ≡ map.rows.n },
+    ghost nears: { length near.now ≡ map.rows.n },
+    ghost counts: { count < 512 },
+    ghost rooms: { room ≤ 255 },
+    ghost ball_is: { Balls map.rows.n map.rows.dist.now map.rows.order.now away.now ball.now },
+    ghost near_few: { All (λ x. x ≤ 512) near.now },
+    ghost near_is: { Nears map.rows.n map.rows.dist.now away.now near.now },
+}
+
+/// A place, and how many lines would be above room in all if it were a landmark.
+#[derive(Clone, Copy)]
+pub(crate) struct Best {
+    pub(crate) place: usize,
+    pub(crate) lines: u32,
 }

@@ -21,13 +21,9 @@ fn landmarks_of(heap: Global, land: &Land) -> Result<Vec<u16>, AllocError>
     ensures { IfOk result (λ v. v.items ≡ marked (marks_of land.now) 0 (map_in land.now).n) }
 {
     let n = land.survey().map().len();
-    let mut landmarks = Vec::new(heap);
-    for v in 0..n {
-        if land.is_landmark(v as usize) {
-            landmarks.push(v)?;
-        }
-    }
-    Ok(landmarks)
+    (0..n)
+        .filter(|v| land.is_landmark(usize::from(*v)))
+        .collect(heap)
 }
 
 /// The cards of all places, that of place 0 first.
@@ -35,14 +31,7 @@ fn cards_of(heap: Global, land: &Land) -> Result<Vec<Card>, AllocError>
     ensures { IfOk result (λ v. v.items ≡ map (card_of (map_in land.now) (marks_of land.now)) (range_with_len 0 (map_in land.now).n)) }
 {
     let n = land.survey().map().len();
-    let mut cards = Vec::new(heap);
-    for v in 0..n {
-        let Some(card) = card_of(land, v) else {
-            return unreachable();
-        };
-        cards.push(card)?;
-    }
-    Ok(cards)
+    (0..n).map(|v| card_of(land, v).unwrap()).collect(heap)
 }
 
 /// The first post that has more lines than there is room for.
@@ -51,12 +40,7 @@ fn first_full(posts: &[Post], room: u8) -> Option<usize>
         ((u : ℕ) → u < length posts.now → length (slice_index_or (map told posts.now) u []) ≤ room)
         (λ u. (u < length posts.now) × (room < length (slice_index_or (map told posts.now) u []))) }
 {
-    for u in 0..posts.len() {
-        if posts[u].len() > room as usize {
-            return Some(u);
-        }
-    }
-    None
+    posts.iter().position(|post| post.len() > usize::from(room))
 }
 
 /// The plan of a surveyed map with its landmarks, for posts with room for so many lines. Takes n times n steps.
@@ -65,7 +49,7 @@ pub fn plan_of(heap: Global, land: &Land, room: u8) -> Result<Plan, Fault>
     ensures { Listed (map_in land.now) room (marks_of land.now) result }
 {
     let posts = posts_of(heap, land)?;
-    if let Some(_full) = first_full(&posts, room) {
+    if first_full(&posts, room).is_some() {
         return Err(Fault::Room);
     }
     let landmarks = landmarks_of(heap, land)?;

@@ -32,16 +32,8 @@ pub fn make(heap: Global, map: RoadMapBuf, room: u8) -> Result<Plan, NoPlan>
     if room < 8 {
         return Err(NoPlan::Range);
     }
-    let Ok(survey) = Survey::new(heap, map) else {
-        return Err(NoPlan::Memory);
-    };
+    let survey = Survey::new(heap, map).map_err(out_of_memory)?;
     let marks = choose(heap, &survey, room)?;
-    let land = match Land::new(heap, survey, marks) {
-        Ok(land) => land,
-        Err(fault) => return Err(out_of_memory(fault)),
-    };
-    match plan_of(heap, &land, room) {
-        Ok(plan) => Ok(plan),
-        Err(fault) => Err(out_of_memory(fault)),
-    }
+    let land = Land::new(heap, survey, marks).map_err(out_of_memory)?;
+    plan_of(heap, &land, room).map_err(out_of_memory)
 }

@@ -8,12 +8,12 @@ use choosing::kinds::Unchosen;
 use maps::kinds::Fault;
 use std::alloc::AllocError;
 
-impl NoPlan {
-    /// The fault as which it is told.
-    pub fn fault(self) -> Fault
-        ensures { result ≡ no_plan_fault self }
-    {
-        match self {
+/// The fault as which it is told.
+impl From<NoPlan> for Fault {
+    ghost from_gives = { λ no_plan fault. fault ≡ no_plan_fault no_plan };
+
+    fn from(no_plan: NoPlan) -> Fault {
+        match no_plan {
             NoPlan::Range => Fault::Range,
             NoPlan::Apart(_) => Fault::Apart,
             NoPlan::Crowded(_) => Fault::Room,
