@@ -1,3 +1,4 @@
 pub mod Posts
 pub mod Pushing
 pub mod Posting
+pub mod Refusing

@@ -4,5 +4,6 @@
 pub mod kinds;
 pub mod post;
 pub mod posting;
+pub mod refusing;
 #[cfg(test)]
 mod tests;
