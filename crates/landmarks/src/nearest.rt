@@ -1,7 +1,7 @@
 // The landmark of a place: the one at the least distance, the lowest among equals.
-ghost use Rattle.std.specs.Prelude.{◌≡◌, cond};
-ghost use Rattle.landmarks.specs.Landmarks.{mark_of, marks_in};
-ghost use Rattle.landmarks.specs.Numbers.{landmark_in, or_nearer};
+ghost use Rattle.std.specs.Prelude.{◌≡◌};
+ghost use Rattle.landmarks.specs.Landmarks.{marks_in};
+ghost use Rattle.landmarks.specs.Numbers.{landmark_in};
 ghost use Rattle.maps.specs.Charts.{ground_of};
 
 use super::kinds::Nearest;

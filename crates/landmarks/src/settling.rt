@@ -1,5 +1,5 @@
 // Settling the landmarks of a surveyed map, and what is near then.
-ghost use Rattle.std.specs.Prelude.{◌≡◌, ltb, if◌then◌else◌, Some, None, nat_lt};
+ghost use Rattle.std.specs.Prelude.{◌≡◌, ltb, if◌then◌else◌, Some, None};
 ghost use Rattle.landmarks.specs.Landmarks.{mark_of};
 ghost use Rattle.landmarks.specs.Lands.{Settled, lines_in, map_in, marks_of, near_in, on_post_in};
 ghost use Rattle.landmarks.specs.Numbers.{mark_number};

@@ -32,6 +32,7 @@ pub fn post_of(land: &Land, u: usize) -> Result<Post, Fault>
         return Err(Fault::Range);
     }
     let mut post = Post::new();
+    // The places come in rising order, so that only a full post refuses a line.
     for v in 0..n {
         if land.on_post(u, v as usize) {
             post.push(line_of(land, u, v))?;

@@ -32,6 +32,7 @@ impl Walker {
 }
 
 /// The walk of `walk`, with each place noted to which one comes.
+// The map and the posts come apart, as callers have them: a struct of the two would serve this function and `turn` alone.
 pub(crate) fn walk_with<N: Notes>(
     map: &RoadMap<'_>,
     posts: &[Post],
