@@ -10,13 +10,11 @@ use landmarks::land::Land;
 pub fn card_of(land: &Land, v: u16) -> Option<Card>
     ensures { result ≡ (if nat_lt v (map_in land.now).n then Some (card_of (map_in land.now) (marks_of land.now) v) else None) }
 {
-    let Some(found) = land.landmark(v as usize) else {
-        return None;
-    };
+    let found = land.landmark(v as usize)?;
     let next = land.survey().hop(v as usize, found.place as usize);
     Some(Card {
         place: v,
         landmark: found.place,
-        hint: Hint::of_number(next),
+        hint: Hint::from(next),
     })
 }

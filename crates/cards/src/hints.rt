@@ -4,22 +4,24 @@ ghost use Rattle.cards.specs.Cards.{hint_number, hint_from};
 
 use super::kinds::Hint;
 
-impl Hint {
-    /// The number of the hint in a document: the next place, or 65,535 if there is none. Takes constant time and refuses nothing.
-    pub fn number(self) -> u16
-        ensures { result ≡ hint_number self }
-    {
-        match self {
+/// The number of a hint in a document: the next place, or 65,535 if there is none. Takes constant time and refuses nothing.
+impl From<Hint> for u16 {
+    ghost from_gives = { λ hint number. number ≡ hint_number hint };
+
+    fn from(hint: Hint) -> u16 {
+        match hint {
             Hint::Next(place) => place,
             Hint::Unneeded => 65535,
         }
     }
+}
 
-    /// The hint that a number of a document stands for: 65,535 is none, any other the next place. Takes constant time and refuses nothing.
-    pub fn of_number(number: u16) -> Hint
-        ensures read { result ≡ hint_from number }
-        ensures again { hint_number result ≡ number }
-    {
+/// The hint that a number of a document stands for: 65,535 is none, any other the next place. Its number is that number again.
+/// Takes constant time and refuses nothing.
+impl From<u16> for Hint {
+    ghost from_gives = { λ number hint. (hint ≡ hint_from number) × (hint_number hint ≡ number) };
+
+    fn from(number: u16) -> Hint {
         if number == 65535 {
             Hint::Unneeded
         } else {

@@ -10,9 +10,6 @@ closer_test x y p r h g = rw (h, g) refl
 pub closer_so : (x y : Far) (p r : ℕ) → x ≡ At p → y ≡ At r → p < r → closer x y ≡ true
 closer_so x y p r h g l = closer_test x y p r h g ∙ lt-ltb p r l
 
-pub closer_not : (x y : Far) (p r : ℕ) → x ≡ At p → y ≡ At r → r ≤ p → closer x y ≡ false
-closer_not x y p r h g l = closer_test x y p r h g ∙ le-ltb p r l
-
 -- what is closer is there
 pub closer_some : (x y : Far) → closer x y ≡ true → (p : ℕ) × (x ≡ At p)
 closer_some Never y h = absurd (false≢true h)

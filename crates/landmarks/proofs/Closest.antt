@@ -1,11 +1,11 @@
 -- The landmark of a place: that it is there, that it is the closest and the lowest, and how one looks for it place by place. Assumes nothing.
-use Rattle.std.proofs.Common.{◌≡◌, ℕ, zero, suc, ◌+◌, ◌<◌, ◌≤◌, true, false, cond, sym, refl, ap, ◌∙◌, inl, inr, add-one, arith}
+use Rattle.std.proofs.Common.{◌≡◌, ℕ, zero, suc, ◌+◌, ◌<◌, ◌≤◌, true, false, sym, refl, ap, ◌∙◌, inl, inr, add-one, arith}
 use Rattle.std.proofs.lemmas.Bool.{cases_Bool, cases_eq, cases_lt}
 use Rattle.ways.specs.Map.{Map, Far, At, far}
 use Rattle.ways.proofs.Fars.{at_same}
 use Rattle.ways.proofs.Certified.{certified}
 use Rattle.ways.proofs.Metric.{far_zero}
-use Rattle.landmarks.specs.Landmarks.{Marks, closer, NoMark, Is, or_closer, nearest}
+use Rattle.landmarks.specs.Landmarks.{Marks, NoMark, Is, or_closer, nearest}
 use Rattle.landmarks.specs.Laws.{Closest, LandmarkThere, LandmarkOnly, LandmarkOwn}
 use Rattle.landmarks.proofs.Closer.{closer_is, Found, or_keeps, or_takes, or_is}
 
@@ -22,15 +22,6 @@ module _ (z : Map) (l : Marks) (v k : ℕ) where
   pub nearest_more : l k ≡ true → nearest z l v (k + 1) ≡ or_closer (nearest z l v k) k (far z v k)
   unfolding nearest
   nearest_more h = rw (add-one, h) refl
-
-  pub nearest_starts : l k ≡ true → nearest z l v k ≡ NoMark → nearest z l v (k + 1) ≡ Is k (far z v k)
-  nearest_starts h e = nearest_more h ∙ ap (λ M. or_closer M k (far z v k)) e
-
-  pub nearest_takes : (m : ℕ) (a : Far) → l k ≡ true → nearest z l v k ≡ Is m a → closer (far z v k) a ≡ true → nearest z l v (k + 1) ≡ Is k (far z v k)
-  nearest_takes m a h e t = nearest_more h ∙ ap (λ M. or_closer M k (far z v k)) e ∙ ap (λ b. cond b (Is k (far z v k)) (Is m a)) t
-
-  pub nearest_keeps : (m : ℕ) (a : Far) → l k ≡ true → nearest z l v k ≡ Is m a → closer (far z v k) a ≡ false → nearest z l v (k + 1) ≡ Is m a
-  nearest_keeps m a h e t = nearest_more h ∙ ap (λ M. or_closer M k (far z v k)) e ∙ ap (λ b. cond b (Is k (far z v k)) (Is m a)) t
 
 -- ---- what is found
 pub nearest_low : (z : Map) (l : Marks) (v k j q : ℕ) → j < k → l j ≡ true → far z v j ≡ At q → Found (nearest z l v k) q

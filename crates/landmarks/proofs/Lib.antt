@@ -1,4 +1,5 @@
 pub mod Closer
 pub mod Closest
+pub mod Least
 pub mod Near
 pub mod Numbered

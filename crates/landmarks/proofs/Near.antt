@@ -1,9 +1,11 @@
 -- What is near: by numbers, along a way, one step on from a landmark, and with more landmarks. Assumes nothing.
-use Rattle.std.proofs.Common.{◌≡◌, ℕ, ◌+◌, ◌<◌, ◌≤◌, true, false, not, ◌||◌, eqb, ltb, ◌⊎◌, sym, refl, ap, ◌∙◌, inl, inr, arith}
-use Rattle.std.proofs.lemmas.Bool.{and_from, and_left, and_right, or_from, or_left, or_right, not_from_true, not_from_false, eq-eqb, ne_eqb, lt-ltb, le-ltb}
+use Rattle.std.proofs.Common.{◌≡◌, ℕ, zero, suc, Bool, cond, length, ◌+◌, ◌<◌, ◌≤◌, true, false, not, ◌||◌, eqb, ltb, ◌⊎◌, sym, refl, ap, ◌∙◌, inl, inr, arith}
+use Rattle.std.proofs.lemmas.Bool.{cases_Bool, and_from, and_left, or_left, or_right, not_from_true, not_from_false, eq-eqb, ne_eqb, lt-ltb, le-ltb}
 use Rattle.ways.specs.Map.{Map, Far, Never, At, far, To, hop}
 use Rattle.ways.proofs.NextPlaces.{next_place}
-use Rattle.ways.proofs.Counting.{count_short}
+use Rattle.std.specs.List.{filter, range_with_len}
+use Rattle.ways.specs.Ways.{count_below}
+use Rattle.ways.proofs.Counting.{count_next, count_short, count_start}
 use Rattle.landmarks.specs.Landmarks.{Marks, closer, Mark, NoMark, Is, mark_of, away_of, place_of, near, on_post}
 use Rattle.landmarks.specs.Laws.{Landmark, NearMeansLess, NearNoLandmark, NearStays, NearFromLandmark, NearLess, LinesFew}
 use Rattle.landmarks.proofs.Closer.{closer_test, closer_so, closer_some, closer_is, closer_never, closer_trans, closer_rises}
@@ -74,11 +76,19 @@ module _ (z : Map) (l : Marks) (u : ℕ) where
       and_from (not (eqb v u)) (l v || near z l u v) (not_from_false (eqb v u) (ne_eqb v u (λ e. ne (sym e))))
       (elim why [ inl t ↦ or_left (l v) (near z l u v) t | inr t ↦ or_right (l v) (near z l u v) t ])
 
-  pub post_lacks : (v : ℕ) → l v ≡ false → near z l u v ≡ false → on_post z l u v ≡ false
-  post_lacks v t s = and_right (not (eqb v u)) (l v || near z l u v) (or_from (l v) (near z l u v) t s)
-
   pub post_not_own : on_post z l u u ≡ false
   post_not_own = and_left (not (eqb u u)) (l u || near z l u u) (not_from_true (eqb u u) (eq-eqb u u refl))
 
 pub lines_few : LinesFew
 lines_few z l u un = count_short z.n u (on_post z l u) un (post_not_own z l u)
+
+-- ---- counting over a range
+count_rest : (f : ℕ → Bool) (k a m : ℕ) → a + k ≡ m → length (filter f (range_with_len a k)) + count_below a f ≡ count_below m f
+count_rest f zero a m e = omega (arith, ap (λ x. count_below x f) (let s : a ≡ m = omega arith in s))
+count_rest f (suc k) a m e = elim (cases_Bool (f a)) [
+  | inl t ↦ rw t (omega (arith, count_rest f k (a + 1) m (omega arith), count_next a f, ap {B = ℕ} (λ (b : Bool). cond b 1 0) t))
+  | inr t ↦ rw t (omega (arith, count_rest f k (a + 1) m (omega arith), count_next a f, ap {B = ℕ} (λ (b : Bool). cond b 1 0) t))
+]
+
+pub count_of_range : (f : ℕ → Bool) (n : ℕ) → length (filter f (range_with_len 0 n)) ≡ count_below n f
+count_of_range f n = omega (arith, count_rest f n 0 n (omega arith), count_start f)

@@ -1,7 +1,9 @@
 -- The landmark of a place in numbers, place by place. Assumes nothing.
-use Rattle.std.proofs.Common.{◌≡◌, ℕ, zero, suc, ◌+◌, ◌<◌, Bool, true, false, cond, ltb, Some, None, sym, refl, ap, ◌∙◌, inl, inr, arith}
-use Rattle.std.proofs.lemmas.Bool.{cases_Bool, cases_eq, le-ltb, lt-ltb}
+use Rattle.std.proofs.Common.{◌≡◌, ℕ, zero, suc, ◌+◌, ◌<◌, ◌≤◌, ◌&&◌, Option, Bool, true, false, cond, ltb, Some, None, sym, refl, ap, ◌∙◌, inl, inr, arith}
+use Rattle.std.proofs.lemmas.Bool.{and_from, and_left, and_right, cases_Bool, cases_eq, cases_lt, le-ltb, lt-ltb}
 use Rattle.distances.specs.Rows.{far_number}
+use Rattle.distances.specs.Surveys.{far_in}
+use Rattle.distances.proofs.Surveyed.{chosen_in}
 use Rattle.landmarks.proofs.Closest.{nearest_is, nearest_more, nearest_skips}
 use Rattle.landmarks.specs.Landmarks.{Is, Mark, Marks, NoMark, away_of, closer, mark_of, near, nearest, or_closer}
 use Rattle.landmarks.specs.Laws.{SomeMark}
@@ -102,6 +104,42 @@ module _ (z : Map) (l : Marks) (u v : ℕ) (un : u < z.n) (vn : v < z.n)
       ap (λ (k : ℕ). ltb (far_number (far z v u)) k) (away_number (mark_of z l v))
       ∙ sym (closer_numbers (far z v u) (away_of (mark_of z l v)) (λ c p. fits u c un p)
       (away_fits (mark_of z l v) (λ m a e. let r = nearest_is z l v z.n m a e in (r.0, r.2))))
+
+sight : (n u v : ℕ) (x : Bool) → u < n → v < n → x ≡ cond (ltb u n && ltb v n) x false
+sight n u v x un vn = ap (λ (b : Bool). cond b x false) (sym (and_from (ltb u n) (ltb v n) (lt-ltb u n un) (lt-ltb v n vn)))
+
+-- the number of a distance is at most that of no way
+far_most : (f : Far) → ((c : ℕ) → f ≡ At c → c < 4294967295) → far_number f ≤ 4294967295
+far_most Never h = omega arith
+far_most (At c) h = omega (arith, h c refl)
+
+module _ (z : Map) (l : Marks) (u v : ℕ) (fits : (a c : ℕ) → v < z.n → a < z.n → far z v a ≡ At c → c < 4294967295) where
+  away_most : v < z.n → (M : Mark) → mark_of z l v ≡ M → (mark_number M).away ≤ 4294967295
+  away_most vn NoMark e = omega arith
+  away_most vn (Is m a) e =
+      let i = nearest_is z l v z.n m a e in
+      far_most a (λ c p. fits m c vn i.0 (i.2 ∙ p))
+
+  near_here : v < z.n → ltb (far_in z v u) (mark_number (mark_of z l v)).away ≡ cond (ltb u z.n && ltb v z.n) (near z l u v) false
+  near_here vn =
+      let away = (mark_number (mark_of z l v)).away in
+      elim (cases_lt u z.n) [
+        | inl un ↦ ap (λ (x : ℕ). ltb x away) (sym (chosen_in z.n v u (far_number (far z v u)) 4294967295 vn un))
+            ∙ near_number z l u v un vn (λ a c an. fits a c vn an)
+            ∙ sight z.n u v (near z l u v) un vn
+        | inr ge ↦ ap (λ (b : Bool). ltb (cond b (far_number (far z v u)) 4294967295) away) (and_right (ltb v z.n) (ltb u z.n) (le-ltb u z.n ge))
+            ∙ le-ltb 4294967295 away (away_most vn (mark_of z l v) refl)
+            ∙ ap (λ (b : Bool). cond b (near z l u v) false) (sym (and_left (ltb u z.n) (ltb v z.n) (le-ltb u z.n ge)))
+      ]
+
+  -- what the landmark that was found says of what is near, and that nothing is where none was found
+  pub near_by : (o : Option Nearest) (r : Bool) → o ≡ cond (ltb v z.n) (Some (mark_number (mark_of z l v))) None → (o ≡ None → r ≡ false) → ((x : Nearest) → o ≡ Some x → r ≡ ltb (far_in z v u) x.away)
+      → r ≡ cond (ltb u z.n && ltb v z.n) (near z l u v) false
+  near_by o r e none some = elim (cases_lt v z.n) [
+    | inl vn ↦ some (mark_number (mark_of z l v)) (e ∙ ap (λ (b : Bool). cond b (Some (mark_number (mark_of z l v))) None) (lt-ltb v z.n vn)) ∙ near_here vn
+    | inr ge ↦ none (e ∙ ap (λ (b : Bool). cond b (Some (mark_number (mark_of z l v))) None) (le-ltb v z.n ge))
+        ∙ ap (λ (b : Bool). cond b (near z l u v) false) (sym (and_right (ltb u z.n) (ltb v z.n) (le-ltb v z.n ge)))
+  ]
 
 -- what a landmark that was found says
 pub found_at : (b : Bool) (x y : Nearest) → Some x ≡ cond b (Some y) None → (b ≡ true) × (x ≡ y)

@@ -8,6 +8,7 @@ use super::kinds::Nearest;
 use distances::survey::Survey;
 
 /// A surveyed map, which of its places are landmarks, and the landmark of every place with its distance.
+// Two lists by place: the first is kept as it was handed over, the second is worked out from it.
 #[derive(Drop)]
 pub struct Land {
     pub(crate) survey: Survey,

@@ -1,5 +1,5 @@
 // Settling the landmarks of a surveyed map, and what is near then.
-ghost use Rattle.std.specs.Prelude.{◌≡◌, ltb, if◌then◌else◌, Some, None, nat_lt};
+ghost use Rattle.std.specs.Prelude.{◌≡◌, ltb, if◌then◌else◌, Some, None};
 ghost use Rattle.landmarks.specs.Landmarks.{mark_of};
 ghost use Rattle.landmarks.specs.Lands.{Settled, lines_in, map_in, marks_of, near_in, on_post_in};
 ghost use Rattle.landmarks.specs.Numbers.{mark_number};
@@ -11,13 +11,6 @@ use distances::survey::Survey;
 use maps::kinds::Fault;
 use std::alloc::Global;
 
-// One distance is less than another: "less", not "at most".
-fn closer_than(away: u32, other: u32) -> bool
-    ensures { result ≡ nat_lt away other }
-{
-    away < other
-}
-
 impl Land {
     /// Works out the landmark of every place, where `marks` says which places are landmarks. Takes n times n steps.
     /// Refuses with Range where no place is one.
@@ -27,9 +20,7 @@ impl Land {
         let n = survey.map().len() as usize;
         let mut nearest: Vec<Nearest> = Vec::new(heap);
         for v in 0..n {
-            let Some(found) = landmark_of(&survey, &marks, v) else {
-                return Err(Fault::Range);
-            };
+            let found = landmark_of(&survey, &marks, v).ok_or(Fault::Range)?;
             nearest.push(found)?;
         }
         Ok(Land {
@@ -46,6 +37,13 @@ impl Land {
         &self.survey
     }
 
+    /// How many places the map has.
+    pub fn len(&self) -> u16
+        ensures { result ≡ (map_in self.now).n }
+    {
+        self.survey.map().len()
+    }
+
     /// Whether place `v` is a landmark.
     pub fn is_landmark(&self, v: usize) -> bool
         ensures { result ≡ marks_of self.now v }
@@ -57,27 +55,22 @@ impl Land {
     pub fn landmark(&self, v: usize) -> Option<Nearest>
         ensures { result ≡ (if ltb v (map_in self.now).n then Some (mark_number (mark_of (map_in self.now) (marks_of self.now) v)) else None) }
     {
-        if v >= self.survey.map().len() as usize {
-            return None;
-        }
-        Some(self.nearest[v])
+        self.nearest.get(v).copied()
     }
 
     /// Whether place `v` is near place `u`: closer than the landmark of `v` is. Nothing is near beyond the places.
     pub fn near(&self, u: usize, v: usize) -> bool
         ensures { result ≡ near_in self.now u v }
     {
-        let Some(found) = self.landmark(v) else {
-            return false;
-        };
-        u < self.survey.map().len() as usize && closer_than(self.survey.far(v, u), found.away)
+        self.landmark(v)
+            .is_some_and(|found| self.survey.far(v, u) < found.away)
     }
 
     /// Whether place `v` has a line on the post at `u`: it is a landmark or near `u`, and not `u` itself.
     pub fn on_post(&self, u: usize, v: usize) -> bool
         ensures { result ≡ on_post_in self.now u v }
     {
-        let n = self.survey.map().len() as usize;
+        let n = self.len() as usize;
         u < n && v < n && u != v && (self.is_landmark(v) || self.near(u, v))
     }
 
@@ -85,13 +78,8 @@ impl Land {
     pub fn line_count(&self, u: usize) -> usize
         ensures { result ≡ lines_in self.now u }
     {
-        let n = self.survey.map().len() as usize;
-        let mut count = 0;
-        for v in 0..n {
-            if self.on_post(u, v) {
-                count += 1;
-            }
-        }
-        count
+        (0..self.len() as usize)
+            .filter(|&v| self.on_post(u, v))
+            .count()
     }
 }

@@ -1,7 +1,16 @@
 -- Lines whose places rise: each place is below all later ones, and the one line for a place is the line found. Assumes nothing.
-use Rattle.std.proofs.Common.{◌≡◌, ℕ, zero, suc, ◌+◌, ◌-◌, ◌<◌, ◌≤◌, false, eqb, List, [], ◌∷◌, length, get_or, Some, None, refl, ap, ◌∙◌, inl, inr, add-one, arith}
+use Rattle.std.proofs.Common.{Bor, MatchOption, Option, Result, Ok, Err, sym, ◌≡◌, ℕ, zero, suc, ◌-◌, ◌<◌, ◌≤◌, false, eqb, List, [], ◌∷◌, length, get_or, Some, None, refl, ap, ◌∙◌, inl, inr, add-one, arith}
 use Rattle.std.proofs.lemmas.List.{length-take-le, get_or-take}
-use Rattle.std.proofs.lemmas.Bool.{cases_eq, eq-eqb, ne_eqb, cond-true, cond-false}
+use Rattle.std.proofs.lemmas.Bool.{cases_eq, cases_lt, eq-eqb, ne_eqb, cond-true, cond-false}
+use Rattle.std.proofs.lemmas.Bool.Decides.{nat_tests}
+use Rattle.std.proofs.lemmas.Cmp.{ranked}
+use Rattle.std.proofs.lemmas.List.Sorted.{IsNonDecreasingBy-from_default}
+use Rattle.std.specs.List.Sorted.{IsBinarySearchResult, IsNonDecreasingBy, IsSearchInRange}
+use Rattle.std.specs.Ordering.{nat_cmp, ordering_index}
+use Rattle.std.specs.Option.{option_copied}
+use Rattle.std.specs.Result.{result_ok}
+use Rattle.std.specs.List.{slice_get}
+use Rattle.std.proofs.lemmas.Option.{get_or_from_slice_get, slice_get-get_or}
 use Rattle.posts.specs.declared.kinds.Line.{Line}
 use Rattle.posts.specs.declared.kinds.Post.{Post}
 use Rattle.posts.specs.Posts.{told, find_in, place_at}
@@ -26,21 +35,23 @@ rising_below p (suc j) i ij jn = elim (cases_eq i j) [
 ]
 
 -- the same of the lines as others see them
-pub told_rising : (p : Post) (k : ℕ) → k + 1 < length (told p) → place_at (told p) k < place_at (told p) (k + 1)
-told_rising p k h =
-    let g : k + 1 < p.count = omega (arith, told_length p) in
-    omega (arith, told_at p k (omega arith), told_at p (k + 1) g, p.rising k g)
+told_below : (p : Post) (j i : ℕ) → i < j → j < length (told p) → place_at (told p) i < place_at (told p) j
+told_below p j i ij jn =
+    let g : j < p.count = omega (arith, told_length p) in
+    omega (arith, told_at p i (omega arith), told_at p j g, rising_below p j i ij g)
 
-pub told_few : (p : Post) → length (told p) ≤ 255
-told_few p = omega (arith, told_length p)
-
--- what is above the last place is above all
-pub last_below : (p : Post) (q : ℕ) → (0 < p.count → place_at p.lines (p.count - 1) < q) → (k : ℕ) → k < length (told p) → place_at (told p) k < q
-last_below p q last k h =
-    let g : k < p.count = omega (arith, told_length p) in
-    elim (cases_eq k (p.count - 1)) [
-      | inl e ↦ omega (arith, told_at p k g, last (omega arith), ap (place_at p.lines) e)
-      | inr ne ↦ omega (arith, told_at p k g, last (omega arith), rising_below p (p.count - 1) k (omega arith) (omega arith))
+-- what is above the last place, if there is one, is above all
+pub last_below : (p : Post) (q : ℕ) (last : Option (Bor Line)) → option_copied last ≡ slice_get (told p) (length (told p) - 1) → ((x : Bor Line) → last ≡ Some x → x.now.place < q)
+    → (k : ℕ) → k < length (told p) → place_at (told p) k < q
+last_below p q None e above k h =
+    let s = slice_get-get_or (told p) (length (told p) - 1) blank (omega arith) in
+    let z : ◌≡◌ {A = ℕ} 0 1 = cc in
+    absurd (omega arith)
+last_below p q (Some x) e above k h =
+    let is : place_at (told p) (length (told p) - 1) ≡ x.now.place = ap (λ (y : Line). y.place) (get_or_from_slice_get (told p) (length (told p) - 1) x.now blank (sym e)) in
+    elim (cases_eq k (length (told p) - 1)) [
+      | inl same ↦ omega (arith, is, above x refl, ap (place_at (told p)) same)
+      | inr ne ↦ omega (arith, is, above x refl, told_below p (length (told p) - 1) k (omega arith) (omega arith))
     ]
 
 -- the line at i, where no earlier one is for that place
@@ -57,12 +68,23 @@ find_missing q (x ∷ xs) other =
     cond-false (eqb x.place q) (Some x) (find_in q xs) (ne_eqb x.place q (other 0 (omega arith)))
     ∙ find_missing q xs (λ k h. other (suc k) (omega arith))
 
-pub find_at : (p : Post) (q i : ℕ) → i < p.count → place_at p.lines i ≡ q → find_in q (told p) ≡ Some (get_or p.lines i blank)
-find_at p q i h e =
-    find_first q (told p) i (omega (arith, told_length p))
-    (λ k ki f. omega (arith, told_at p k (omega arith), rising_below p i k ki h)) (told_at p i h ∙ e)
-    ∙ ap Some (get_or-take p.count p.lines i blank h)
+-- a search by places ends at the line for a place, or finds that there is none
+module _ (p : Post) (q : ℕ) where
+  comparisons_rise : IsNonDecreasingBy (λ (x : Line). ordering_index (nat_cmp x.place q)) (told p)
+  comparisons_rise = IsNonDecreasingBy-from_default (λ (x : Line). ordering_index (nat_cmp x.place q)) (told p) blank (λ i j le in_range.
+      let rise : place_at (told p) i ≤ place_at (told p) j = elim (cases_eq i j) [
+        | inl e ↦ omega (arith, ap (place_at (told p)) e)
+        | inr ne ↦ omega (arith, told_below p j i (omega arith) in_range)
+      ] in
+      grind (arith, nat_tests))
 
-pub find_no : (p : Post) (q : ℕ) → ((k : ℕ) → k < p.count → place_at p.lines k ≡ q → ⊥) → find_in q (told p) ≡ None
-find_no p q other =
-    find_missing q (told p) (λ k h f. let g : k < p.count = omega (arith, told_length p) in other k g (omega (arith, told_at p k g)))
+  pub searched : (r : Result ℕ ℕ) (o : Option ℕ) → o ≡ result_ok r → IsSearchInRange r (length (told p)) → IsBinarySearchResult (λ (x : Line). nat_cmp x.place q) (told p) r
+      → MatchOption o (find_in q (told p) ≡ None) (λ i. find_in q (told p) ≡ Some (get_or (told p) i blank))
+  searched (Ok i) o e in_range equal =
+      let at : place_at (told p) i ≡ q = ranked (place_at (told p) i) q _ (sym (equal blank)) in
+      rw e (find_first q (told p) i in_range (λ k ki s. omega (arith, told_below p i k ki in_range, at)) at)
+  searched (Err i) o e in_range parted =
+      rw e (find_missing q (told p) (λ k h s. elim (cases_lt k i) [
+        | inl lt ↦ omega (arith, ranked (place_at (told p) k) q _ (sym ((parted comparisons_rise).0 k blank (omega arith) lt)))
+        | inr ge ↦ omega (arith, ranked (place_at (told p) k) q _ (sym ((parted comparisons_rise).1 k blank ge h)))
+      ]))

@@ -10,6 +10,7 @@ pub struct Line {
 }
 
 /// The lines at a place, at most 255, in rising order of the places that they name.
+// An array with a count, since a post wants no memory beyond its own.
 #[derive(Clone, Copy)]
 pub struct Post {
     pub(crate) lines: [Line; 255],

@@ -5,5 +5,6 @@ pub mod kinds;
 pub mod post;
 pub mod posting;
 pub mod printing;
+pub mod refusing;
 #[cfg(test)]
 mod tests;

@@ -43,7 +43,11 @@ impl Post {
         if self.count >= 255 {
             return Err(Refused::Full);
         }
-        if self.count > 0 && line.place <= self.lines[self.count - 1].place {
+        if self
+            .lines()
+            .last()
+            .is_some_and(|last| line.place <= last.place)
+        {
             return Err(Refused::Order);
         }
         self.lines[self.count] = line;
@@ -52,24 +56,12 @@ impl Post {
     }
 
     /// The line for a place, `None` where there is none. The lines still in question are halved at
-    /// each step: at most eight steps for 255 lines. It refuses nothing.
+    /// each step: at most eight halvings for 255 lines. It refuses nothing.
     pub fn find(&self, place: u16) -> Option<Line>
         ensures { result ≡ find_in place (told self.now) }
     {
-        let mut low: usize = 0;
-        let mut high = self.count;
-        while low < high {
-            let middle = low + (high - low) / 2;
-            let line = self.lines[middle];
-            if line.place == place {
-                return Some(line);
-            }
-            if line.place < place {
-                low = middle + 1;
-            } else {
-                high = middle;
-            }
-        }
-        None
+        let lines = self.lines();
+        let at = lines.binary_search_by_key(&place, |line| line.place).ok()?;
+        Some(lines[at])
     }
 }

@@ -27,20 +27,15 @@ fn line_of(land: &Land, u: usize, v: u16) -> Line
 pub fn post_of(land: &Land, u: usize) -> Result<Post, Fault>
     ensures { Posted (map_in land.now) (marks_of land.now) u result }
 {
-    let n = land.survey().map().len();
+    let n = land.len();
     if u >= n as usize {
         return Err(Fault::Range);
     }
     let mut post = Post::new();
+    // The places come in rising order, so that only a full post refuses a line.
     for v in 0..n {
         if land.on_post(u, v as usize) {
-            if post.len() >= 255 {
-                return Err(Fault::Room);
-            }
-            let line = line_of(land, u, v);
-            let Ok(()) = post.push(line) else {
-                return unreachable();
-            };
+            post.push(line_of(land, u, v))?;
         }
     }
     Ok(post)
@@ -51,13 +46,9 @@ pub fn post_of(land: &Land, u: usize) -> Result<Post, Fault>
 pub fn posts_of(heap: Global, land: &Land) -> Result<Vec<Post>, Fault>
     ensures { PostedAll (map_in land.now) (marks_of land.now) result }
 {
-    let n = land.survey().map().len();
     let mut posts = Vec::new(heap);
-    for u in 0..n {
-        match post_of(land, u as usize) {
-            Ok(post) => posts.push(post)?,
-            Err(fault) => return Err(fault),
-        }
+    for u in 0..land.len() {
+        posts.push(post_of(land, u as usize)?)?;
     }
     Ok(posts)
 }

@@ -6,6 +6,5 @@ pub mod Arriving
 pub mod Promised
 pub mod Turns
 pub mod Trails
-pub mod Among
 pub mod Worked
 pub mod TreesThere

@@ -1,6 +1,9 @@
 -- The places to which one comes on a walk, turn by turn. Assumes nothing.
-use Rattle.std.proofs.Common.{◌≡◌, ℕ, zero, suc, ◌+◌, ◌-◌, ◌*◌, ◌<◌, Bool, true, false, cond, eqb, ltb, List, [], ◌∷◌, ◌++◌, sym, refl, ap, ◌∙◌, subst, arith}
+use Rattle.std.proofs.Common.{Vec, vec_items, Ok, Err, ◌≡◌, ℕ, zero, suc, ◌+◌, ◌-◌, ◌*◌, ◌<◌, Bool, true, false, cond, eqb, ltb, List, [], ◌∷◌, ◌++◌, sym, refl, ap, ◌∙◌, subst, arith}
 use Rattle.std.proofs.lemmas.List.{append_assoc, append-nil}
+use Rattle.std.specs.List.{FoldsTo}
+use Rattle.std.specs.declared.alloc.Global.{Global}
+use Rattle.walking.specs.Noting.{Noted}
 use Rattle.std.proofs.lemmas.Bool.{eqb-true, ltb-true}
 use Rattle.ways.specs.Map.{Map, Hop, Nowhere, To}
 use Rattle.cards.specs.declared.kinds.Card.{Card}
@@ -8,7 +11,7 @@ use Rattle.walking.specs.Walks.{Posts, goes, as_step, step_of, turn_by, onward, 
 use Rattle.walking.specs.Promise.{Along, here, by, Passes}
 use Rattle.walking.specs.declared.kinds.Step.{Step}
 use Rattle.walking.specs.declared.kinds.Step.TheVariants.{Here, On, Lost}
-use Rattle.walking.specs.declared.kinds.Turn.TheVariants.{Gone, Over}
+use Rattle.walking.specs.declared.kinds.Leg.{Leg}
 use Rattle.walking.specs.declared.kinds.End.{End}
 use Rattle.walking.specs.declared.kinds.End.TheVariants.{Arrived, Stuck}
 
@@ -26,21 +29,21 @@ trail_none : (z : Map) (posts : Posts) (card : Card) (u : ℕ) → trail 0 z pos
 unfolding trail
 trail_none z posts card u = refl
 
-pub trail_ends : (k : ℕ) (z : Map) (posts : Posts) (card : Card) (u : ℕ) (xs : List ℕ) → k ≡ 0 → xs ≡ xs ++ trail k z posts card u
-trail_ends k z posts card u xs e = sym (ap (λ j. xs ++ trail j z posts card u) e ∙ ap (λ ys. xs ++ ys) (trail_none z posts card u) ∙ append-nil xs)
+pub trail_ends : (k : ℕ) (z : Map) (posts : Posts) (card : Card) (u : ℕ) → k ≡ 0 → trail k z posts card u ≡ []
+trail_ends k z posts card u e = ap (λ j. trail j z posts card u) e ∙ trail_none z posts card u
 
--- i of m roads are gone, and xs are the places before
-module _ (z : Map) (posts : Posts) (card : Card) (m i cost u : ℕ) (xs : List ℕ) (l : i < m) where
-  trail_next : xs ++ trail (m - i) z posts card u ≡ xs ++ comes (trail (m - (i + 1)) z posts card) (turn_by z cost u (step_of (posts u) card u))
+-- i of m roads are gone
+module _ (z : Map) (posts : Posts) (card : Card) (m i cost u : ℕ) (l : i < m) where
+  trail_next : trail (m - i) z posts card u ≡ comes (trail (m - (i + 1)) z posts card) (turn_by z cost u (step_of (posts u) card u))
   trail_next =
       let e : m - i ≡ suc (m - (i + 1)) = omega arith in
-      ap (λ k. xs ++ trail k z posts card u) e ∙ ap (λ ys. xs ++ ys) (trail_turn (m - (i + 1)) z posts card cost u)
+      ap (λ k. trail k z posts card u) e ∙ trail_turn (m - (i + 1)) z posts card cost u
 
-  pub trail_over : (r : End) → Over r ≡ turn_by z cost u (step_of (posts u) card u) → xs ≡ xs ++ trail (m - i) z posts card u
-  trail_over r h = sym (append-nil xs) ∙ ap (λ t. xs ++ comes (trail (m - (i + 1)) z posts card) t) h ∙ sym trail_next
+  pub trail_over : (r : End) → Err r ≡ turn_by z cost u (step_of (posts u) card u) → trail (m - i) z posts card u ≡ []
+  trail_over r h = trail_next ∙ ap (λ t. comes (trail (m - (i + 1)) z posts card) t) (sym h)
 
-  pub trail_gone : (e c : ℕ) → Gone e c ≡ turn_by z cost u (step_of (posts u) card u) → (xs ++ e ∷ []) ++ trail (m - (i + 1)) z posts card e ≡ xs ++ trail (m - i) z posts card u
-  trail_gone e c h = append_assoc xs (e ∷ []) (trail (m - (i + 1)) z posts card e) ∙ ap (λ t. xs ++ comes (trail (m - (i + 1)) z posts card) t) h ∙ sym trail_next
+  pub trail_gone : (leg : Leg) → Ok leg ≡ turn_by z cost u (step_of (posts u) card u) → trail (m - i) z posts card u ≡ leg.place ∷ trail (m - (i + 1)) z posts card leg.place
+  trail_gone leg h = trail_next ∙ ap (λ t. comes (trail (m - (i + 1)) z posts card) t) (sym h)
 
 -- ---- whoever arrives has come by the places of his trail
 module _ (z : Map) (v : ℕ) where
@@ -50,7 +53,7 @@ module _ (z : Map) (v : ℕ) where
 
   came_road : (f : ℕ → ℕ → End) (g : ℕ → List ℕ) → ((cost e c : ℕ) → f cost e ≡ Arrived c → Came cost e c (g e))
       → (cost u c e : ℕ) (b : Bool) → (b ≡ true → 0 < z.cost u e) → cond b (f (cost + z.cost u e) e) (Stuck u) ≡ Arrived c
-      → Came cost u c (comes g (cond b (Gone e (z.cost u e)) (Over (Stuck u))))
+      → Came cost u c (comes g (cond b (Ok (record { place = e; toll = z.cost u e })) (Err (Stuck u))))
   came_road f g more cost u c e true pos h =
       let r = more (cost + z.cost u e) e c h in
       (z.cost u e + r.0, omega (arith, r.1), by u e r.0 (g e) (pos refl) r.2)
@@ -80,3 +83,8 @@ passes z posts card u r e c h =
     let t = came (2 * z.n) z posts card 0 u c (sym e ∙ h) in
     let s : t.0 ≡ c = omega (arith, t.1) in
     subst (λ x. Along z card.place u x (trail_of z posts card u)) s t.2
+
+-- ---- places noted behind one another
+pub noted_all : (places : List ℕ) (before after : Vec ℕ Global) → FoldsTo Noted before places after → vec_items after ≡ vec_items before ++ places
+noted_all [] before after h = ap vec_items (sym h) ∙ sym (append-nil (vec_items before))
+noted_all (x ∷ places) before after h = noted_all places h.0 after h.2 ∙ ap (λ xs. xs ++ places) h.1.0 ∙ append_assoc (vec_items before) (x ∷ []) places

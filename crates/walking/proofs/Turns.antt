@@ -1,5 +1,5 @@
 -- A walk turn by turn, the places at which posts are looked at, and the promise for posts in memory. Assumes nothing.
-use Rattle.std.proofs.Common.{◌≡◌, ℕ, zero, suc, ◌+◌, ◌-◌, ◌*◌, ◌<◌, ◌≤◌, Bool, true, false, cond, eqb, ltb, sym, refl, ap, ◌∙◌, inl, inr, arith}
+use Rattle.std.proofs.Common.{Ok, Err, Result, ◌≡◌, ℕ, zero, suc, ◌+◌, ◌-◌, ◌*◌, ◌<◌, ◌≤◌, Bool, true, false, cond, eqb, ltb, sym, refl, ap, ◌∙◌, inl, inr, arith}
 use Rattle.std.proofs.lemmas.Bool.{cases_Bool, cases_lt, ltb-true}
 use Rattle.ways.specs.Map.{Map, Hop, Nowhere, To}
 use Rattle.maps.specs.Arcs.{Meaning}
@@ -9,19 +9,18 @@ use Rattle.walking.specs.General.{Inside}
 use Rattle.walking.specs.Promise.{Keeps}
 use Rattle.walking.specs.declared.kinds.Step.{Step}
 use Rattle.walking.specs.declared.kinds.Step.TheVariants.{Here, On, Lost}
-use Rattle.walking.specs.declared.kinds.Turn.{Turn}
-use Rattle.walking.specs.declared.kinds.Turn.TheVariants.{Gone, Over}
+use Rattle.walking.specs.declared.kinds.Leg.{Leg}
 use Rattle.walking.specs.declared.kinds.End.{End}
 use Rattle.walking.specs.declared.kinds.End.TheVariants.{Arrived, Stuck, Worn}
 use Rattle.walking.proofs.Promised.{promise}
 
 -- ---- turn by turn
 -- what a turn leaves to do
-abbrev after : (ℕ → ℕ → End) → ℕ → Turn → End
-after f cost (Gone e c) = f (cost + c) e
-after f cost (Over r) = r
+abbrev after : (ℕ → ℕ → End) → ℕ → Result Leg End → End
+after f cost (Ok leg) = f (cost + leg.toll) leg.place
+after f cost (Err r) = r
 
-after_road : (f : ℕ → ℕ → End) (cost u e c : ℕ) (b : Bool) → cond b (f (cost + c) e) (Stuck u) ≡ after f cost (cond b (Gone e c) (Over (Stuck u)))
+after_road : (f : ℕ → ℕ → End) (cost u e c : ℕ) (b : Bool) → cond b (f (cost + c) e) (Stuck u) ≡ after f cost (cond b (Ok (record { place = e; toll = c })) (Err (Stuck u)))
 after_road f cost u e c true = refl
 after_road f cost u e c false = refl
 
@@ -49,21 +48,21 @@ module _ (z : Map) (posts : Posts) (card : Card) (m i cost u : ℕ) (l : i < m) 
       let e : m - i ≡ suc (m - (i + 1)) = omega arith in
       ap (λ k. travels k z posts card cost u) e ∙ travels_turn (m - (i + 1)) z posts card cost u
 
-  pub turn_over : (r : End) → Over r ≡ turn_by z cost u (step_of (posts u) card u) → r ≡ travels (m - i) z posts card cost u
+  pub turn_over : (r : End) → Err r ≡ turn_by z cost u (step_of (posts u) card u) → r ≡ travels (m - i) z posts card cost u
   turn_over r h = ap (after (travels (m - (i + 1)) z posts card) cost) h ∙ sym turn_next
 
-  pub turn_gone : (e c : ℕ) → Gone e c ≡ turn_by z cost u (step_of (posts u) card u) → travels (m - (i + 1)) z posts card (cost + c) e ≡ travels (m - i) z posts card cost u
-  turn_gone e c h = ap (after (travels (m - (i + 1)) z posts card) cost) h ∙ sym turn_next
+  pub turn_gone : (leg : Leg) → Ok leg ≡ turn_by z cost u (step_of (posts u) card u) → travels (m - (i + 1)) z posts card (cost + leg.toll) leg.place ≡ travels (m - i) z posts card cost u
+  turn_gone leg h = ap (after (travels (m - (i + 1)) z posts card) cost) h ∙ sym turn_next
 
 -- a road gone costs what the map says
-gone_road : (u e k c : ℕ) (b : Bool) (x : ℕ) → Gone k c ≡ cond b (Gone e x) (Over (Stuck u)) → c ≡ x
-gone_road u e k c true x h = cc
-gone_road u e k c false x h = let y : ◌≡◌ {A = ℕ} 0 1 = cc in absurd (omega arith)
+gone_road : (u e : ℕ) (leg : Leg) (b : Bool) (x : ℕ) → Ok leg ≡ cond b (Ok (record { place = e; toll = x })) (Err (Stuck u)) → leg.toll ≡ x
+gone_road u e leg true x h = let s : leg ≡ record { place = e; toll = x } = cc in ap (λ (w : Leg). w.toll) s
+gone_road u e leg false x h = let y : ◌≡◌ {A = ℕ} 0 1 = cc in absurd (omega arith)
 
-pub gone_cheap : (z : Map) (cost u e c : ℕ) (s : Step) → ((a b : ℕ) → z.cost a b ≤ 65535) → Gone e c ≡ turn_by z cost u s → c ≤ 65535
-gone_cheap z cost u e c Here cheap h = let y : ◌≡◌ {A = ℕ} 0 1 = cc in absurd (omega arith)
-gone_cheap z cost u e c Lost cheap h = let y : ◌≡◌ {A = ℕ} 0 1 = cc in absurd (omega arith)
-gone_cheap z cost u e c (On x) cheap h = omega (arith, gone_road u x e c (ltb 0 (z.cost u x)) (z.cost u x) h, cheap u x)
+pub gone_cheap : (z : Map) (cost u : ℕ) (leg : Leg) (s : Step) → ((a b : ℕ) → z.cost a b ≤ 65535) → Ok leg ≡ turn_by z cost u s → leg.toll ≤ 65535
+gone_cheap z cost u leg Here cheap h = let y : ◌≡◌ {A = ℕ} 0 1 = cc in absurd (omega arith)
+gone_cheap z cost u leg Lost cheap h = let y : ◌≡◌ {A = ℕ} 0 1 = cc in absurd (omega arith)
+gone_cheap z cost u leg (On x) cheap h = omega (arith, gone_road u x leg (ltb 0 (z.cost u x)) (z.cost u x) h, cheap u x)
 
 -- ---- posts that say the same at the places of the map lead the same way
 inside : (z : Map) → Meaning z → Inside z

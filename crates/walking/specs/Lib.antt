@@ -4,3 +4,4 @@ pub mod Promise
 pub mod Trees
 pub mod SmallMaps
 pub mod Cases
+pub mod Noting

@@ -7,7 +7,7 @@
 --   turn_by   what comes of a step at u on a map, after roads of some cost
 --   travels   how a walk ends that may go so many roads more, from u, after roads of some cost
 --   trail     the places to which one comes on such a walk after u, in their order
-use Rattle.std.specs.Prelude.{ℕ, zero, suc, ◌+◌, ◌*◌, cond, List, [], ◌∷◌, map, Some, None, Option, ◌==◌, nat_lt, slice_index_or}
+use Rattle.std.specs.Prelude.{ℕ, zero, suc, ◌+◌, ◌*◌, cond, List, [], ◌∷◌, map, Some, None, Option, Ok, Err, Result, ◌==◌, nat_lt, slice_index_or}
 use Rattle.ways.specs.Map.{Map, Hop, Nowhere, To}
 use Rattle.landmarks.specs.Landmarks.{Marks}
 use Rattle.posts.specs.declared.kinds.Line.{Line}
@@ -18,8 +18,7 @@ use Rattle.cards.specs.declared.kinds.Hint.TheVariants.{Next, Unneeded}
 use Rattle.cards.specs.declared.kinds.Card.{Card}
 use Rattle.walking.specs.declared.kinds.Step.{Step}
 use Rattle.walking.specs.declared.kinds.Step.TheVariants.{Here, On, Lost}
-use Rattle.walking.specs.declared.kinds.Turn.{Turn}
-use Rattle.walking.specs.declared.kinds.Turn.TheVariants.{Gone, Over}
+use Rattle.walking.specs.declared.kinds.Leg.{Leg}
 use Rattle.walking.specs.declared.kinds.End.{End}
 use Rattle.walking.specs.declared.kinds.End.TheVariants.{Arrived, Stuck, Worn}
 
@@ -66,11 +65,11 @@ as_step (To e) = On e
 abbrev pub step_of : List Line → Card → ℕ → Step
 step_of lines card u = cond (u == card.place) Here (as_step (goes lines card u))
 
--- one step on a map, along a road, if there is one
-abbrev pub turn_by : Map → ℕ → ℕ → Step → Turn
-turn_by z cost u Here = Over (Arrived cost)
-turn_by z cost u Lost = Over (Stuck u)
-turn_by z cost u (On e) = cond (nat_lt 0 (z.cost u e)) (Gone e (z.cost u e)) (Over (Stuck u))
+-- one step on a map, along a road, if there is one; else the walk is over
+abbrev pub turn_by : Map → ℕ → ℕ → Step → Result Leg End
+turn_by z cost u Here = Err (Arrived cost)
+turn_by z cost u Lost = Err (Stuck u)
+turn_by z cost u (On e) = cond (nat_lt 0 (z.cost u e)) (Ok (record { place = e; toll = z.cost u e })) (Err (Stuck u))
 
 -- along a road, if there is one
 abbrev pub onward : (ℕ → ℕ → End) → Map → ℕ → ℕ → Hop → End
@@ -91,9 +90,9 @@ abbrev pub posts_of : Map → Marks → Posts
 posts_of z l u = post_of z l u
 
 -- the places to which one comes, the last one too if one is worn out there
-abbrev pub comes : (ℕ → List ℕ) → Turn → List ℕ
-comes f (Gone e c) = e ∷ f e
-comes f (Over r) = []
+abbrev pub comes : (ℕ → List ℕ) → Result Leg End → List ℕ
+comes f (Ok leg) = leg.place ∷ f leg.place
+comes f (Err r) = []
 
 unfoldable pub trail : ℕ → Map → Posts → Card → ℕ → List ℕ
 trail zero z posts card u = []

@@ -30,11 +30,9 @@ pub enum End {
     Worn,
 }
 
-/// What comes of a step on a map.
+/// A road that was gone: the place to which it leads, and its cost.
 #[derive(Clone, Copy, PartialEq, Eq, Debug)]
-pub enum Turn {
-    /// A road to this place was gone, at this cost.
-    Gone(u16, u16),
-    /// The walk is over.
-    Over(End),
+pub struct Leg {
+    pub place: u16,
+    pub toll: u16,
 }

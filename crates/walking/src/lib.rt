@@ -3,6 +3,7 @@
 
 pub mod kinds;
 pub mod laws;
+mod notes;
 pub mod noting;
 pub mod steps;
 #[cfg(test)]

@@ -4,7 +4,8 @@ ghost use Rattle.maps.specs.Charts.{chart};
 ghost use Rattle.walking.specs.Walks.{posts_in, walk_of, trail_of};
 ghost use Rattle.walking.specs.Promise.{Keeps, Passes};
 
-use super::kinds::{End, Turn, Walker};
+use super::kinds::End;
+use super::walks::walk_with;
 use cards::kinds::Card;
 use maps::map::RoadMap;
 use posts::kinds::Post;
@@ -24,20 +25,6 @@ pub fn walk_noting(
     ensures way { IfOk result (λ e. Passes (chart map.now) (posts_in posts.now) card from e) }
     ensures passed { passed.new.items ≡ (if is_ok result then passed.old.items ++ trail_of (chart map.now) (posts_in posts.now) card from else passed.old.items) }
 {
-    let budget = 2 * map.n;
-    passed.reserve(budget)?;
-    let mut at = from;
-    let mut cost: u32 = 0;
-    for _i in 0..budget {
-        let walker = Walker { at, card };
-        match walker.turn(map, posts, cost) {
-            Turn::Gone(place, toll) => {
-                at = place;
-                cost += toll as u32;
-                passed.push_reserved(place);
-            }
-            Turn::Over(end) => return Ok(end),
-        }
-    }
-    Ok(End::Worn)
+    passed.reserve(2 * map.n)?;
+    Ok(walk_with(map, posts, card, from, passed))
 }

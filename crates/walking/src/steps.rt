@@ -63,21 +63,19 @@ impl Walker {
     pub fn step_among(self, posts: &[Post]) -> Step
         ensures { result ≡ step_of (posts_in posts.now self.at) self.card self.at }
     {
-        let at = self.at as usize;
-        if at < posts.len() {
-            self.step(&posts[at])
-        } else {
-            self.step_without_post()
+        match posts.get(self.at as usize) {
+            Some(post) => self.step(post),
+            None => self.step_without_post(),
         }
     }
 }
 
-impl End {
-    /// The number of the end: 0 if one arrived, 1 if one is stuck, 2 if one is worn out. Takes constant time and refuses nothing.
-    pub fn number(self) -> u8
-        ensures { result ≡ end_number self }
-    {
-        match self {
+/// The number of the end: 0 if one arrived, 1 if one is stuck, 2 if one is worn out. Takes constant time and refuses nothing.
+impl From<End> for u8 {
+    ghost from_gives = { λ end number. number ≡ end_number end };
+
+    fn from(end: End) -> u8 {
+        match end {
             End::Arrived(_) => 0,
             End::Stuck(_) => 1,
             End::Worn => 2,

@@ -86,7 +86,7 @@ fn two_posts_point_at_each_other(rt: HostRuntime) -> Result<(), Fail> {
     let map = row(rt.alloc())?;
     let wrong = [post(&[near(3, 1)]), post(&[near(3, 0)])];
     assert_eq!(rt; walk(&map.map(), &wrong, card(3), 0), End::Worn);
-    assert_eq!(rt; End::Worn.number(), 2);
+    assert_eq!(rt; u8::from(End::Worn), 2);
     Ok(())
 }
 

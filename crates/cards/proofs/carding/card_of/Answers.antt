@@ -20,14 +20,14 @@ returns c =
     let z = map_in s in
     let l = marks_of s in
     let v = c.args.v in
-    let f = found_at (ltb v z.n) c.in-Some.found (mark_number (mark_of z l v)) c.in-Some.ensures in
+    let f = found_at (ltb v z.n) c.in_ok-found.found (mark_number (mark_of z l v)) c.in_ok-found.ensures in
     let vn : v < z.n = ltb-true v z.n f.0 in
     let few = ground_few s.survey.map in
-    let p : c.in-Some.found.place ≡ place_of (mark_of z l v) = ap (λ (x : Nearest). x.place) f.1 ∙ place_number (mark_of z l v) in
-    let h : c.of_number.result ≡ (card_of z l v).hint =
-    c.of_number.ensures.read
-    ∙ ap hint_from (c.hop-next.ensures ∙ ap (λ (x : Survey). hop_in (ground_of x.map) v c.in-Some.found.place) c.survey.ensures ∙ ap (λ (k : ℕ). hop_in z v k) p)
+    let p : c.in_ok-found.found.place ≡ place_of (mark_of z l v) = ap (λ (x : Nearest). x.place) f.1 ∙ place_number (mark_of z l v) in
+    let h : c.from.result ≡ (card_of z l v).hint =
+    c.from.ensures.0
+    ∙ ap hint_from (c.hop-next.ensures ∙ ap (λ (x : Survey). hop_in (ground_of x.map) v c.in_ok-found.found.place) c.survey.ensures ∙ ap (λ (k : ℕ). hop_in z v k) p)
     ∙ hint_is z l v few.0 few.1 vn in
-    ap (λ (k : ℕ). Some (record { place = v; landmark = k; hint = c.of_number.result })) p
+    ap (λ (k : ℕ). Some (record { place = v; landmark = k; hint = c.from.result })) p
     ∙ ap (λ (x : Hint). Some (record { place = v; landmark = place_of (mark_of z l v); hint = x })) h
     ∙ ap (λ (t : Bool). cond t (Some (card_of z l v)) None) (sym f.0)

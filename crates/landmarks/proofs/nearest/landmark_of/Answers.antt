@@ -1,47 +1,24 @@
-use Rattle.std.proofs.Common.{◌≡◌, ℕ, ◌<◌, Bool, cond, None, Option, sym, ap, ◌∙◌, arith}
+use Rattle.std.proofs.Common.{◌≡◌, ◌<◌, Bool, cond, None, sym, ap, ◌∙◌, arith, rules, tests}
+use Rattle.std.proofs.lemmas.Iterator.{YieldsList-from_map, YieldsList-from_range}
+use Rattle.std.proofs.lemmas.Iterator.Consumers.{YieldsList-at, YieldsList-from_filter}
 use Rattle.std.proofs.lemmas.Bool.{lt-ltb}
-use Rattle.distances.proofs.Surveyed.{chosen_in, ground_fits}
-use Rattle.distances.specs.Rows.{far_number}
-use Rattle.landmarks.proofs.Closest.{nearest_none}
-use Rattle.landmarks.proofs.Numbered.{turn_marked, turn_unmarked}
+use Rattle.distances.proofs.Surveyed.{ground_fits}
+use Rattle.landmarks.proofs.Least.{away_to, least_from_min_by_key, least_landmark}
 use Rattle.landmarks.proofs.nearest.landmark_of.Goals as goal
-use Rattle.landmarks.proofs.nearest.landmark_of.Goals.{else-is_marked, then-is_marked}
-use Rattle.landmarks.specs.Landmarks.{mark_of, marks_in, nearest}
-use Rattle.landmarks.specs.Numbers.{mark_numbers, or_nearer}
-use Rattle.landmarks.specs.declared.kinds.Nearest.{Nearest}
+use Rattle.landmarks.specs.Landmarks.{mark_of, marks_in}
+use Rattle.landmarks.specs.Numbers.{mark_numbers}
 use Rattle.maps.specs.Charts.{ground_of}
 use Rattle.maps.specs.declared.buf.RoadMapBuf.{RoadMapBuf}
-use Rattle.ways.specs.Map.{At, far}
-
-pub loop-k-init : goal.loop-k-init
-loop-k-init c = ap mark_numbers (sym (nearest_none (ground_of c.args.survey.now.map) (marks_in c.args.marks.now) c.args.v 0))
-
-pub loop-k-preserved : goal.loop-k-preserved
-loop-k-preserved c =
-    let b = c.args.survey.now.map in
-    let z = ground_of b in
-    let l = marks_in c.args.marks.now in
-    let v = c.args.v in
-    let k = c.loop-k.k in
-    let n : c.len-n.result ≡ b.n = c.len-n.ensures ∙ ap (λ (x : RoadMapBuf). x.n) c.map.ensures in
-    let vn : v < b.n = omega (arith, n, c.if-v-n.false) in
-    let kn : k < b.n = omega (arith, n, c.loop-k-test.true) in
-    let fits : (a e : ℕ) → a < b.n → far z v a ≡ At e → e < 4294967295 = λ a e an h. ground_fits b v a e vn an h in
-    elim c.if-is_marked.branch [
-      | then-is_marked w ↦
-          w.best-is ∙ w.nearer-best.ensures ∙ ap (λ (x : ℕ). or_nearer c.loop-k.best k x) (w.far.ensures ∙ sym (chosen_in b.n v k (far_number (far z v k)) 4294967295 vn kn))
-          ∙ ap (λ (x : Option Nearest). or_nearer x k (far_number (far z v k))) c.loop-k.invariant
-          ∙ sym (turn_marked z l v k vn kn fits (sym c.is_marked.ensures ∙ w.if-is_marked.true))
-      | else-is_marked w ↦
-          w.best-is ∙ c.loop-k.invariant ∙ sym (turn_unmarked z l v k vn kn fits (sym c.is_marked.ensures ∙ w.if-is_marked.false))
-    ]
 
 pub returns : goal.returns
 returns c =
     let b = c.args.survey.now.map in
     let z = ground_of b in
     let l = marks_in c.args.marks.now in
+    let v = c.args.v in
     let n : c.len-n.result ≡ b.n = c.len-n.ensures ∙ ap (λ (x : RoadMapBuf). x.n) c.map.ensures in
-    let e : c.loop-k.k ≡ b.n = omega (arith, n) in
-    c.loop-k.invariant ∙ ap (λ (k : ℕ). mark_numbers (nearest z l c.args.v k)) e
-    ∙ ap (λ (t : Bool). cond t (mark_numbers (mark_of z l c.args.v)) None) (sym (lt-ltb c.args.v b.n (omega (arith, n, c.if-v-n.false))))
+    let vn : v < b.n = omega (arith, n, c.if-v-n.false) in
+    least_from_min_by_key _ _ (λ x k q e. search (rules, tests)) _ c.min_by_key.ensures.ran
+    (YieldsList-from_map _ (away_to z v) (YieldsList-at c.map-2.ensures.source (YieldsList-from_filter _ l (YieldsList-from_range 0 b.n b.n (c.filter.ensures.source ∙ ap (λ k. record { start = 0; end = k }) n) (omega arith)) c.filter.ensures.closure (λ x r q k. search (rules, tests)))) c.map-2.ensures.closure (λ x r q k. search (rules, tests)))
+    ∙ least_landmark z l v vn (λ a e an h. ground_fits b v a e vn an h)
+    ∙ ap (λ (t : Bool). cond t (mark_numbers (mark_of z l v)) None) (sym (lt-ltb v b.n vn))

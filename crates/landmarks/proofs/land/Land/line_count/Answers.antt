@@ -1,26 +1,14 @@
-use Rattle.std.proofs.Common.{◌≡◌, ℕ, ◌≤◌, Bool, cond, sym, ap, ◌∙◌, arith, rules}
+use Rattle.std.proofs.Common.{ap, ◌∙◌, arith, rules, tests}
+use Rattle.std.proofs.lemmas.Iterator.{YieldsList-from_range}
+use Rattle.std.proofs.lemmas.Iterator.Consumers.{YieldsList-from_filter, count_from_yields_List}
+use Rattle.landmarks.proofs.Near.{count_of_range}
 use Rattle.landmarks.proofs.land.Land.line_count.Goals as goal
-use Rattle.landmarks.proofs.land.Land.line_count.Goals.{else-on_post, then-on_post}
-use Rattle.landmarks.specs.Lands.{on_post_in}
-use Rattle.ways.proofs.Counting.{count_most, count_next, count_start}
+use Rattle.landmarks.specs.Lands.{map_in, on_post_in}
 
-pub loop-v-init : goal.loop-v-init
-loop-v-init c = sym (count_start (on_post_in c.args.self.now c.args.u))
-
-pub overflow_add-count : goal.overflow_add-count
-overflow_add-count c =
-    let h : c.loop-v.count ≤ c.loop-v.v = omega (arith, c.loop-v.invariant, count_most c.loop-v.v (on_post_in c.args.self.now c.args.u)) in
-    search rules
-
-pub loop-v-preserved : goal.loop-v-preserved
-loop-v-preserved c =
-    let f : ℕ → Bool = on_post_in c.args.self.now c.args.u in
-    let v = c.loop-v.v in
-    elim c.if-on_post.branch [
-      | then-on_post w ↦
-          (let e : ◌≡◌ {A = ℕ} (cond (f v) 1 0) 1 = ap (λ (b : Bool). cond b 1 0) (sym c.on_post.ensures ∙ w.if-on_post.true) in
-          omega (arith, w.count-is, c.loop-v.invariant, count_next v f, e))
-      | else-on_post w ↦
-          (let e : ◌≡◌ {A = ℕ} (cond (f v) 1 0) 0 = ap (λ (b : Bool). cond b 1 0) (sym c.on_post.ensures ∙ w.if-on_post.false) in
-          omega (arith, w.count-is, c.loop-v.invariant, count_next v f, e))
-    ]
+pub returns : goal.returns
+returns c =
+    let s = c.args.self.now in
+    let n = (map_in s).n in
+    count_from_yields_List c.filter.result _ c.count.ensures.ran
+    (YieldsList-from_filter _ (on_post_in s c.args.u) (YieldsList-from_range 0 n n (c.filter.ensures.source ∙ ap (λ k. record { start = 0; end = k }) c.len.ensures) (omega arith)) c.filter.ensures.closure (λ x r q k. search (rules, tests)))
+    ∙ count_of_range (on_post_in s c.args.u) n

@@ -1,38 +1,18 @@
--- The line in the middle is the one that is found, or half of the lines are done with. Assumes nothing.
-use Rattle.std.proofs.Common.{◌+◌, ◌-◌, ◌/◌, sym, inl, inr, arith}
-use Rattle.std.proofs.lemmas.Bool.{cases_eq, cases_lt}
-use Rattle.posts.proofs.Rising.{rising_below, find_at, find_no}
+-- A search of the lines by their places, which rise. Assumes nothing.
+use Rattle.std.proofs.Common.{false, List, Some, get_or, sym, ap, ◌∙◌, rules}
+use Rattle.std.proofs.lemmas.List.Sorted.{answers_always}
+use Rattle.posts.specs.declared.kinds.Line.{Line}
+use Rattle.posts.proofs.Rising.{searched}
 use Rattle.posts.proofs.kinds.Post.find.Goals as goal
 
-pub returns-then-line-place : goal.returns-then-line-place
-returns-then-line-place c =
-    sym (find_at c.args.self.now c.args.place (c.loop-low.low + (c.loop-low.high - c.loop-low.low) / 2) (omega arith) c.if-line-place.true)
-
-pub loop-low-preserved-then-line-place-2 : goal.loop-low-preserved-then-line-place-2
-loop-low-preserved-then-line-place-2 c = (
-  omega arith,
-  omega arith,
-  λ k h. elim (cases_eq k (c.loop-low.low + (c.loop-low.high - c.loop-low.low) / 2)) [
-    | inl e ↦ rw e (omega arith)
-    | inr ne ↦ omega (arith, rising_below c.args.self.now (c.loop-low.low + (c.loop-low.high - c.loop-low.low) / 2) k (omega arith) (omega arith))
-  ],
-  c.loop-low.invariant.3,
-)
-
-pub loop-low-preserved : goal.loop-low-preserved
-loop-low-preserved c = (
-  omega arith,
-  omega arith,
-  c.loop-low.invariant.2,
-  λ k lo hi. elim (cases_eq k (c.loop-low.low + (c.loop-low.high - c.loop-low.low) / 2)) [
-    | inl e ↦ rw e (omega arith)
-    | inr ne ↦ omega (arith, rising_below c.args.self.now k (c.loop-low.low + (c.loop-low.high - c.loop-low.low) / 2) (omega arith) (omega arith))
-  ],
-)
+pub returns-in_err-at : goal.returns-in_err-at
+returns-in_err-at c =
+    let facts = rw c.lines-lines.ensures at c.binary_search_by_key.ensures in
+    let missing = searched c.args.self.now c.args.place _ _ c.in_err-at.ensures.value facts.bound (facts.position (λ (line : Line). line.place) (answers_always _ _ _ (λ f a r g called. search rules))) in
+    c.from_residual.ensures ∙ sym missing
 
 pub returns : goal.returns
 returns c =
-    sym (find_no c.args.self.now c.args.place (λ k h e. elim (cases_lt k c.loop-low.low) [
-      | inl lo ↦ omega (arith, c.loop-low.invariant.2 k lo)
-      | inr hi ↦ omega (arith, c.loop-low.invariant.3 k (omega arith) h)
-    ]))
+    let facts = rw c.lines-lines.ensures at c.binary_search_by_key.ensures in
+    let found = searched c.args.self.now c.args.place _ _ c.in_ok-at.ensures.value facts.bound (facts.position (λ (line : Line). line.place) (answers_always _ _ _ (λ f a r g called. search rules))) in
+    ap (λ (xs : List Line). Some (get_or xs c.in_ok-at.at (record { place = 0; next = 0; near = false }))) c.lines-lines.ensures ∙ sym found
