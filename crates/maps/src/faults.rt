@@ -5,6 +5,7 @@ ghost use Rattle.maps.specs.declared.kinds.Fault.TheVariants.{Memory};
 
 use super::kinds::Fault;
 use std::alloc::{AllocError, AllocFailed};
+use std::error::Error;
 use std::fmt;
 
 impl Fault {
@@ -33,6 +34,8 @@ impl fmt::Display for Fault {
         })
     }
 }
+
+impl Error for Fault {}
 
 impl From<AllocError> for Fault {
     ghost from_gives = { λ _ r. r ≡ Memory };

@@ -10,7 +10,7 @@ pub enum Asked {
 }
 
 /// What some words of a command line stand for.
-#[derive(Clone, Copy)]
+#[derive(Clone, Copy, PartialEq, Eq, Debug)]
 pub enum Item<'a> {
     /// The name of a file, or `-` for standard input.
     File(&'a str),

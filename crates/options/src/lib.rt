@@ -5,3 +5,5 @@ pub mod asking;
 pub mod items;
 pub mod kinds;
 pub mod numbers;
+#[cfg(test)]
+mod tests;

@@ -7,7 +7,7 @@ use maps::kinds::Fault;
 use std::fmt;
 use std::process::ExitCode;
 
-/// The status of a program that ends so: 0 if it has done its work, and 1 if not.
+/// The status of a program that ends so: 0 if it has done its work, and 1 if not. A `main` that returned the error itself would print it as a second line.
 pub fn status_of(done: Result<(), Ended>) -> ExitCode
     ensures { exit_status result ≡ cond (is_ok done) 0 1 }
 {

@@ -3,6 +3,7 @@ ghost use Rattle.std.specs.Prelude.{Some};
 ghost use Rattle.reading.specs.Words.{record_name, place_words, refusal_words, stop_words};
 
 use super::kinds::{Place, Record, Refusal, Stop};
+use std::error::Error;
 use std::fmt;
 
 impl fmt::Display for Record {
@@ -34,6 +35,8 @@ impl fmt::Display for Refusal {
     }
 }
 
+impl Error for Refusal {}
+
 impl fmt::Display for Stop {
     ghost output = { λ stop. Some (stop_words stop) };
 
@@ -44,3 +47,5 @@ impl fmt::Display for Stop {
         }
     }
 }
+
+impl Error for Stop {}

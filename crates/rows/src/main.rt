@@ -26,7 +26,7 @@ fn show_rows(program: Program<'_>, map: &RoadMap<'_>) -> Result<(), Ended> {
     Ok(())
 }
 
-// The sum of all distances and next places.
+// The sum of all distances and next places. A `fold` that may wrap, since `sum` of a chain of two asks for a bound that the check doesn't find from their lengths.
 fn sum_of(dist: &[u32], next: &[u16]) -> u64 {
     let dist = dist.iter().map(|x| u64::from(*x));
     let next = next.iter().map(|e| u64::from(*e));
