@@ -1,5 +1,5 @@
 -- One turn of the search, over a map in memory and the queue as the code has it. Assumes nothing.
-use Rattle.std.proofs.Common.{◌≡◌, ℕ, ◌+◌, ◌-◌, ◌^◌, ◌<◌, List, length, get_or, Some, None, refl, ap, ◌∙◌, subst, arith}
+use Rattle.std.proofs.Common.{◌≡◌, ℕ, ◌+◌, ◌-◌, ◌<◌, List, length, get_or, Some, None, refl, ap, ◌∙◌, subst, arith}
 use Rattle.ways.specs.Ways.{count_below}
 use Rattle.ways.proofs.Counting.{count_most}
 use Rattle.maps.specs.Arcs.{arc_part}
@@ -12,19 +12,12 @@ use Rattle.distances.specs.Orders.{Reached, Sorted}
 use Rattle.distances.specs.Rows.{FarRow}
 use Rattle.distances.specs.Steps.{Followed}
 use Rattle.distances.proofs.Ordering.{Ordering}
-use Rattle.distances.proofs.Searching.{settled, Searching, searching_room, searching_more, settled_more, searching_end, fewer, order_more, order_end}
+use Rattle.distances.proofs.Searching.{settled, Searching, searching_more, settled_more, searching_end, fewer, order_more, order_end}
 
 module _ (m : RoadMap) (d : ℕ) (dn : d < m.n) (dist keys : List ℕ) (o : Searching (chart m) m.n d dist keys) where
   module _ (q : ℕ) (qn : q ≡ m.n) (u : ℕ) (keys₁ : List ℕ) (p : Popped q keys keys₁ (Some u)) where
     popped : Popped m.n keys keys₁ (Some u)
     popped = subst (λ n. Popped n keys keys₁ (Some u)) qn p
-
-    pub turn_inside : u < m.n
-    turn_inside = popped.0
-
-    -- there is room in 32 bits for one road more
-    pub turn_room : get_or dist u 0 + 65535 < 2 ^ 32
-    turn_room = omega (arith, searching_room m.n m.starts.now m.places.now m.costs.now (view_arcs m) d dn dist keys o u popped.0 popped.1 popped.2)
 
     -- there is a place for u in the order
     pub turn_place : (seq : ℕ → ℕ) (count : ℕ) → Ordering m.n (λ a. get_or dist a 0) (settled m.n dist keys) seq count → count < m.n

@@ -37,6 +37,7 @@ impl Survey {
         &self.map
     }
 
+    // The highest number stands for none here, as it does in the rows that are lent.
     /// How far place `a` is from place `d`; the highest number if there is no way, or no such place.
     pub fn far(&self, d: usize, a: usize) -> u32
         ensures { result ≡ far_in (ground_of self.now.map) d a }

@@ -6,11 +6,6 @@ use Rattle.distances.specs.Rows.{hop_number}
 use Rattle.distances.proofs.Surveyed.{chosen_in, entry_fits}
 use Rattle.distances.proofs.survey.Survey.hop.Goals as goal
 
-pub index-requires : goal.index-requires
-index-requires c =
-    let s = c.args.self.now in
-    entry_fits s.map.n c.args.d c.args.a c.len-n.result _ c.len-n.ensures s.nexts c.if-d-n.false c.if-a-n.false
-
 pub returns : goal.returns
 returns c =
     let s = c.args.self.now in
