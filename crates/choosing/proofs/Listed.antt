@@ -59,12 +59,6 @@ module _ (xs ys : List ℕ) (long : length xs ≡ length ys) where
   zipped : length (zip xs ys) ≡ length ys
   zipped = omega (arith, length-zip xs ys)
 
-  pub near_list : length (filter (λ (p : ℕ × ℕ). ltb p.0 p.1) (zip xs ys)) ≡ near_by (length ys) xs ys
-  near_list =
-      count_list (λ (p : ℕ × ℕ). ltb p.0 p.1) (0, 0) (zip xs ys) ∙ ap (λ k. count_below k (λ u. ltb (get_or (zip xs ys) u (0, 0)).0 (get_or (zip xs ys) u (0, 0)).1)) zipped
-      ∙ count_same (length ys) (λ u. ltb (get_or xs u 0) (get_or ys u 0)) (λ u. ltb (get_or (zip xs ys) u (0, 0)).0 (get_or (zip xs ys) u (0, 0)).1)
-      (λ u h. ap (λ (p : ℕ × ℕ). ltb p.0 p.1) (get_or-zip xs ys u (0, 0) (omega arith) h))
-
   pub left_list : (count room : ℕ) → sum_by (λ (p : ℕ × ℕ). (count + p.0) - (p.1 + (room + 1))) (zip xs ys) ≡ left_below xs ys count room (length ys)
   left_list count room =
       sum_list (λ (p : ℕ × ℕ). (count + p.0) - (p.1 + (room + 1))) (0, 0) (zip xs ys)

@@ -80,8 +80,3 @@ module _ (n : ℕ) (table : List ℕ) (marks : List Bool) (away : List ℕ) (cou
     -- a place that leaves no fewer lines, whether it was judged or not
     pub picking_stays : ((z : Map) → Aways z (marks_in marks) n table away → count_below n (marks_in marks) ≡ count → NoFewer (above z room (with_mark i (marks_in marks))) found) → Picking n table marks away count room (i + 1) found
     picking_stays h = record { so_far = λ z a k. step z a k ∙ stays found i (above z room (with_mark i (marks_in marks))) (h z a k); unmarked = open_more marks i found p.unmarked }
-
-pub picking_end : (n : ℕ) (table : List ℕ) (marks : List Bool) (away : List ℕ) (count room i : ℕ) (found : Option Best) → Picking n table marks away count room i found → i ≡ n
-    → ((z : Map) → Aways z (marks_in marks) n table away → count_below n (marks_in marks) ≡ count → Picked z room (marks_in marks) found) × Open marks n found
-picking_end n table marks away count room i found p e =
-    (λ z a k. (let q : z.n ≡ i = a.tabled.places ∙ sym e in ap (best z room (marks_in marks)) q ∙ p.so_far z a k), subst (λ m. Open marks m found) e p.unmarked)

@@ -76,9 +76,6 @@ module _ (n : ℕ) (far seq : ℕ → ℕ) (s : Sorted n far seq) (from ball j :
         | inr p ↦ between_past j ball i p ∙ sym (between_past from to (far (seq i)) (b.outer i p h))
       ]
 
-  pub fades_stop : 0 < j → far (seq (j - 1)) < from → (i : ℕ) → i < j → far (seq i) < from
-  fades_stop pos lt i h = omega (arith, s.rises i (j - 1) (omega arith) (omega (arith, f.low)))
-
   -- a place still to come has lost no more than before
   pub fades_few : 0 < j → ((u : ℕ) → u < n → get_or before u 0 ≤ 512) → get_or lost (seq (j - 1)) 0 ≤ 512
   fades_few pos h = omega (arith, f.losts (j - 1) (omega (arith, f.low)), h (seq (j - 1)) (s.inside (j - 1) (omega (arith, f.low))), between_under j ball (j - 1) (omega arith))

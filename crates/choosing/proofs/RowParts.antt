@@ -1,8 +1,24 @@
 -- Rows as parts of a table, and what counting and lowering by them gives. Assumes nothing.
-use Rattle.std.proofs.Common.{◌≡◌, ℕ, zero, suc, ◌+◌, ◌*◌, ◌<◌, ◌≤◌, min, ltb, List, length, get_or, ap, ◌∙◌, arith}
+use Rattle.std.proofs.Common.{◌≡◌, ℕ, zero, suc, ◌+◌, ◌*◌, ◌<◌, ◌≤◌, min, cond, ltb, List, length, get_or, ap, ◌∙◌, arith}
 use Rattle.std.proofs.lemmas.Nat.{mul-add-lt}
-use Rattle.ways.proofs.Counting.{count_most, count_same}
+use Rattle.std.proofs.lemmas.Bool.{lt-ltb, le-ltb, cond-true, cond-false}
+use Rattle.ways.proofs.Counting.{count_most, count_start, count_next, count_same}
 use Rattle.choosing.specs.Tables.{apart, near_by, near_to}
+
+-- ---- one row
+module _ (row away : List ℕ) where
+  pub near_zero : near_by 0 row away ≡ 0
+  near_zero = count_start (λ v. ltb (get_or row v 0) (get_or away v 0))
+
+  pub near_yes : (v : ℕ) → get_or row v 0 < get_or away v 0 → near_by (v + 1) row away ≡ near_by v row away + 1
+  near_yes v h =
+      let e : ◌≡◌ {A = ℕ} (cond (ltb (get_or row v 0) (get_or away v 0)) 1 0) 1 = cond-true (ltb (get_or row v 0) (get_or away v 0)) 1 0 (lt-ltb (get_or row v 0) (get_or away v 0) h) in
+      omega (arith, count_next v (λ v. ltb (get_or row v 0) (get_or away v 0)))
+
+  pub near_no : (v : ℕ) → get_or away v 0 ≤ get_or row v 0 → near_by (v + 1) row away ≡ near_by v row away
+  near_no v h =
+      let e : ◌≡◌ {A = ℕ} (cond (ltb (get_or row v 0) (get_or away v 0)) 1 0) 0 = cond-false (ltb (get_or row v 0) (get_or away v 0)) 1 0 (le-ltb (get_or row v 0) (get_or away v 0) h) in
+      omega (arith, count_next v (λ v. ltb (get_or row v 0) (get_or away v 0)))
 
 -- ---- a row of the table
 pub row_fits : (u n k : ℕ) → u < n → k ≤ n → u * n + k ≤ n * n

@@ -11,9 +11,6 @@ use Rattle.choosing.specs.Laws.{BestPlace, Roomy, Crowded, Rule, fits, gives_up,
 use Rattle.choosing.proofs.Sums.{sum_none, sum_each}
 
 -- ---- lines above room, and posts that have more
-pub roomy_none : (z : Map) (room : ℕ) (l : Marks) → Roomy z room l → above z room l ≡ 0
-roomy_none z room l h = sum_none z.n (λ u. line_count z l u - room) (λ u un. omega (arith, h u un))
-
 pub none_roomy : (z : Map) (room : ℕ) (l : Marks) → above z room l ≡ 0 → Roomy z room l
 none_roomy z room l e u un = omega (arith, sum_each z.n (λ u. line_count z l u - room) e u un)
 

@@ -26,9 +26,6 @@ pub record Outer (n : ℕ) (far seq : ℕ → ℕ) (to ball : ℕ) : Type 0 wher
 abbrev pub SortedAt : ℕ → List ℕ → List ℕ → ℕ → Type 0
 SortedAt n table order v = Sorted n (apart n table v) (in_order n order v)
 
-abbrev pub Orders : ℕ → List ℕ → List ℕ → Type 0
-Orders n table order = (v : ℕ) → v < n → SortedAt n table order v
-
 abbrev pub BallAt : ℕ → List ℕ → List ℕ → ℕ → ℕ → ℕ → Type 0
 BallAt n table order v to ball = Ball n (apart n table v) (in_order n order v) to ball
 

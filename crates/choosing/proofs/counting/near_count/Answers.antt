@@ -1,12 +1,14 @@
-use Rattle.std.proofs.Common.{ltb, ◌∙◌, rules}
-use Rattle.std.proofs.lemmas.Iterator.{YieldsList-from_slice, YieldsList-from_zip}
-use Rattle.std.proofs.lemmas.Iterator.Consumers.{YieldsList-from_filter, count_from_yields_List}
-use borrow.Author.Tests.{tests}
-use Rattle.choosing.proofs.Listed.{near_list}
+use Rattle.std.proofs.Common.{sym, arith}
+use Rattle.choosing.proofs.RowParts.{near_zero, near_yes, near_no}
 use Rattle.choosing.proofs.counting.near_count.Goals as goal
+use Rattle.choosing.proofs.counting.near_count.Goals.{then-far-away, else-far-away}
 
-pub returns : goal.returns
-returns c =
-    let pairs = YieldsList-from_zip (YieldsList-from_slice c.args.row.now cc) (YieldsList-from_slice c.args.away.now cc) in
-    count_from_yields_List _ _ c.count.ensures.ran (YieldsList-from_filter _ (λ p. ltb p.0 p.1) pairs c.filter.ensures.closure (λ x b q k. search (rules, tests)))
-    ∙ near_list c.args.row.now c.args.away.now c.requires.long
+pub loop-v-init : goal.loop-v-init
+loop-v-init c = (sym (near_zero c.args.row.now c.args.away.now), omega arith)
+
+pub loop-v-preserved : goal.loop-v-preserved
+loop-v-preserved c =
+    elim c.if-far-away.branch [
+      | then-far-away w ↦ (omega (arith, w.near-is, near_yes c.args.row.now c.args.away.now c.loop-v.v w.if-far-away.true), omega (arith, w.near-is))
+      | else-far-away w ↦ (omega (arith, w.near-is, near_no c.args.row.now c.args.away.now c.loop-v.v w.if-far-away.false), omega (arith, w.near-is))
+    ]
