@@ -1,4 +1,4 @@
--- A place put behind those that are noted. Assumes nothing but the lemma below.
+-- A place put behind those that are noted, and that it takes the room of one, which the trait asks of its impl. Assumes nothing.
 use Rattle.std.specs.Prelude.{◌≡◌, ℕ, ◌+◌, ◌≤◌, [], ◌∷◌, ◌++◌, Vec, vec_capacity, vec_items, vec_len}
 use Rattle.std.specs.declared.alloc.Global.{Global}
 use Rattle.std.proofs.Common.{arith}
