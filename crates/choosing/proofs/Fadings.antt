@@ -22,9 +22,6 @@ module _ (t : Turn) (v : ℕ) (there : v < t.map.rows.n) (from : ℕ) where
   b : Ball n (far t v) (seq t v) (to t v) (ball t v)
   b = t.ball_is v there
 
-  pub fading_begins : (before : List ℕ) → Fading-at t v from 0 before before
-  fading_begins before = subst (λ j. Fades n (far t v) (seq t v) from (ball t v) j before before) (omega arith) (fades_start n (far t v) (seq t v) from (ball t v) before)
-
   module _ (row order : List ℕ) (is : (u : ℕ) → u < n → get_or row u 0 ≡ far t v u) (long : length order ≡ ball t v) (first : (j : ℕ) → j < ball t v → get_or order j 0 ≡ seq t v j) (before lost : List ℕ) (k : ℕ) (f : Fading-at t v from k before lost) where
     abbrev pub rest : List ℕ
     rest = take (outside from row order) (reverse order)
