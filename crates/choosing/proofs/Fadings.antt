@@ -6,7 +6,7 @@ use Rattle.choosing.specs.Turns.{Ball}
 use Rattle.choosing.specs.declared.turn.Turn.{Turn}
 use Rattle.choosing.proofs.Gathers.{far, seq, to, ball}
 use Rattle.choosing.proofs.Ordering.{sorted_at}
-use Rattle.choosing.proofs.Ranges.{Fades, fades_start, fades_more, fades_end, fades_few, outside, length-outside, outside_turn, outside_stop}
+use Rattle.choosing.proofs.Ranges.{Fades, fades_more, fades_end, fades_few, outside, length-outside, outside_turn, outside_stop}
 
 -- k places from behind have lost one more
 abbrev pub Fading-at : Turn → ℕ → ℕ → ℕ → List ℕ → List ℕ → Type 0
