@@ -6,7 +6,7 @@ use Rattle.choosing.specs.Turns.{Ball}
 use Rattle.choosing.specs.declared.turn.Turn.{Turn}
 use Rattle.choosing.proofs.Gathers.{far, seq, to, ball}
 use Rattle.choosing.proofs.Ordering.{sorted_at}
-use Rattle.choosing.proofs.Ranges.{Fades, fades_start, fades_more, fades_end, fades_few, outside, length-outside, outside_turn, outside_stop}
+use Rattle.choosing.proofs.Ranges.{Fades, fades_more, fades_end, fades_few, outside, length-outside, outside_turn, outside_stop}
 
 -- k places from behind have lost one more
 abbrev pub Fading-at : Turn → ℕ → ℕ → ℕ → List ℕ → List ℕ → Type 0
@@ -21,9 +21,6 @@ module _ (t : Turn) (v : ℕ) (there : v < t.map.rows.n) (from : ℕ) where
 
   b : Ball n (far t v) (seq t v) (to t v) (ball t v)
   b = t.ball_is v there
-
-  pub fading_begins : (before : List ℕ) → Fading-at t v from 0 before before
-  fading_begins before = subst (λ j. Fades n (far t v) (seq t v) from (ball t v) j before before) (omega arith) (fades_start n (far t v) (seq t v) from (ball t v) before)
 
   module _ (row order : List ℕ) (is : (u : ℕ) → u < n → get_or row u 0 ≡ far t v u) (long : length order ≡ ball t v) (first : (j : ℕ) → j < ball t v → get_or order j 0 ≡ seq t v j) (before lost : List ℕ) (k : ℕ) (f : Fading-at t v from k before lost) where
     abbrev pub rest : List ℕ

@@ -1,13 +1,12 @@
 -- Counts and sums over lists, as counts and sums below a number. Assumes nothing.
-use Rattle.std.proofs.Common.{◌≡◌, ℕ, zero, suc, ◌+◌, ◌-◌, ◌*◌, ◌<◌, ◌≤◌, Bool, false, cond, ltb, List, [], ◌∷◌, All, length, get_or, filter, sum_by, refl, ap, ◌∙◌, subst, sym, inl, inr, arith}
+use Rattle.std.proofs.Common.{◌≡◌, ℕ, zero, suc, ◌+◌, ◌-◌, ◌*◌, ◌<◌, ◌≤◌, Bool, false, cond, List, [], ◌∷◌, All, length, get_or, filter, sum_by, refl, ap, ◌∙◌, subst, sym, inl, inr, arith}
 use Rattle.std.proofs.lemmas.Bool.{cases_Bool}
 use Rattle.std.proofs.lemmas.List.Sums.{sum_by-cons}
 use Rattle.std.proofs.lemmas.Slice.Zip.{get_or-zip, length-zip}
 use Rattle.std.specs.List.{zip}
 use Rattle.ways.specs.Ways.{count_below}
-use Rattle.ways.proofs.Counting.{count_same}
 use Rattle.choosing.specs.Choosing.{sum_below}
-use Rattle.choosing.specs.Tables.{near_by, left_below, over_below, weight}
+use Rattle.choosing.specs.Tables.{left_below, over_below, weight}
 use Rattle.choosing.proofs.Sums.{count_sum, sum_same, sum_most}
 
 count_first : (n : ℕ) (f : ℕ → Bool) → count_below (suc n) f ≡ cond (f 0) 1 0 + count_below n (λ u. f (suc u))

@@ -1,5 +1,5 @@
 -- Looking for the best place, one after the other: what holds on the way. Assumes nothing.
-use Rattle.std.proofs.Common.{◌≡◌, ℕ, ◌+◌, ◌<◌, ◌≤◌, min, ltb, Bool, true, false, List, get_or, Some, None, Option, sym, refl, ap, ◌∙◌, subst, add-one, arith}
+use Rattle.std.proofs.Common.{◌≡◌, ℕ, ◌+◌, ◌<◌, ◌≤◌, min, ltb, Bool, true, false, List, get_or, Some, None, Option, sym, refl, ap, ◌∙◌, add-one, arith}
 use Rattle.std.proofs.lemmas.Bool.{both_ways, lt-ltb, le-ltb, ltb-true, ltb-false}
 use Rattle.std.specs.Option.{MatchOption}
 use Rattle.ways.specs.Map.{Map}
@@ -7,7 +7,7 @@ use Rattle.ways.specs.Ways.{count_below}
 use Rattle.landmarks.specs.Landmarks.{Marks, marks_in}
 use Rattle.choosing.specs.Choosing.{above, with_mark, NoPlace, Place, or_better, best}
 use Rattle.choosing.specs.Tables.{Aways}
-use Rattle.choosing.specs.Turns.{read_best, Picked, Open}
+use Rattle.choosing.specs.Turns.{read_best, Open}
 use Rattle.choosing.specs.declared.turn.Best.{Best}
 
 -- x is fewer lines than those of the best so far, if any; and is no fewer

@@ -25,12 +25,6 @@ pub record Fades (n : ℕ) (far seq : ℕ → ℕ) (from ball j : ℕ) (before l
   pub past : (i : ℕ) → j ≤ i → i < ball → from ≤ far (seq i)
   pub losts : (i : ℕ) → i < n → get_or lost (seq i) 0 ≡ get_or before (seq i) 0 + between01 j ball i
 
-pub fades_start : (n : ℕ) (far seq : ℕ → ℕ) (from ball : ℕ) (before : List ℕ) → Fades n far seq from ball ball before before
-fades_start n far seq from ball before = record { low = omega arith; past = λ i p q. absurd (omega arith); losts = λ i h. omega (arith, none i) }
-  where
-    none : (i : ℕ) → between01 ball ball i ≡ 0
-    none i = elim (cases_lt i ball) [ inl p ↦ between_under ball ball i p | inr p ↦ between_past ball ball i p ]
-
 module _ (n : ℕ) (far seq : ℕ → ℕ) (s : Sorted n far seq) (from ball j : ℕ) (bn : ball ≤ n) (before lost : List ℕ) (f : Fades n far seq from ball j before lost) where
   pub fades_more : 0 < j → length lost ≡ n → from ≤ far (seq (j - 1)) → Fades n far seq from ball (j - 1) before (set lost (seq (j - 1)) (get_or lost (seq (j - 1)) 0 + 1))
   fades_more pos ln le = record {

@@ -62,7 +62,7 @@ fn choose_by(
     Ok(())
 }
 
-/// The same in memory of its own.
+/// The same in memory of its own, of a fixed size, with a number for each place. A function for each, so that the loop is proved for slices of any length.
 fn choose_on(map: &Ordered<'_>, room: u32, marks: &mut [bool]) -> Result<(), Crowd>
     requires marks { length marks.old ≡ map.now.rows.n }
     requires rooms { room ≤ 255 }

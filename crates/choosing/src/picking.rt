@@ -10,7 +10,7 @@ use super::counting::above;
 use super::turn::{Best, Turn};
 
 impl Turn<'_> {
-    /// The same, in lent memory, which is overwritten. A place whose bound shows that it leaves no fewer lines than one before it isn't judged.
+    /// Picks the next landmark in lent memory, which is overwritten. A place whose bound shows that it leaves no fewer lines than one before it isn't judged.
     fn pick_in(
         &self,
         marks: &[bool],
@@ -40,6 +40,7 @@ impl Turn<'_> {
         best
     }
 
+    // Its memory has a fixed size, with a number for each place. A function for each, so that the loop is proved for slices of any length.
     /// The place that isn't a landmark after which the lines above room are fewest, the lowest among equals; none if all are landmarks.
     pub(crate) fn pick(&self, marks: &[bool]) -> Option<Best>
         requires marks { length marks.now ≡ self.now.map.rows.n }

@@ -1,4 +1,3 @@
 pub mod Marking
-pub mod Places
 pub mod Coded
 pub mod Standing

@@ -4,7 +4,7 @@ use Rattle.std.proofs.lemmas.Iterator.Consumers.{YieldsList-at, YieldsList-end, 
 use Rattle.std.proofs.lemmas.Iterator.Search.{YieldsList-from_take_while}
 use Rattle.std.proofs.lemmas.List.{length_push}
 use borrow.Author.Tests.{tests}
-use Rattle.choosing.proofs.Fadings.{fading_begins, fading_ends, fading_goes, fading_room}
+use Rattle.choosing.proofs.Fadings.{fading_ends, fading_goes, fading_room}
 use Rattle.choosing.proofs.Ordering.{reverse_inside}
 use Rattle.choosing.proofs.Ranges.{outside, past}
 use Rattle.choosing.proofs.turn.Turn.fade.Goals as goal
@@ -14,9 +14,6 @@ loop-u-init-derived c =
     let order = c.closest-ball.result.now in
     let inside = reverse_inside c.args.self.now.map.rows.n order c.closest-ball.ensures.inside in
     ((tt, serves_from_places (YieldsList-from_rev_slice order cc) (λ x q k. search rules) (λ x k h e. (let below : x.now < length c.dists-dists.result.now = omega (arith, inside k x.now h, c.dists-dists.ensures.long) in search rules))), tt)
-
-pub loop-u-init : goal.loop-u-init
-loop-u-init c = fading_begins c.args.self.now c.args.v c.requires.there c.args.from c.args.lost.now
 
 pub overflow_add-lost : goal.overflow_add-lost
 overflow_add-lost c =
