@@ -4,7 +4,7 @@ ghost use Rattle.maps.specs.Charts.{chart};
 ghost use Rattle.walking.specs.Walks.{posts_in, walk_of, trail_of};
 ghost use Rattle.walking.specs.Promise.{Keeps, Passes};
 
-use super::kinds::End;
+use super::kinds::{End, Walker};
 use super::walks::walk_with;
 use cards::kinds::Card;
 use maps::map::RoadMap;
@@ -26,5 +26,5 @@ pub fn walk_noting(
     ensures passed { passed.new.items ≡ (if is_ok result then passed.old.items ++ trail_of (chart map.now) (posts_in posts.now) card from else passed.old.items) }
 {
     passed.reserve(2 * map.n)?;
-    Ok(walk_with(map, posts, card, from, passed))
+    Ok(walk_with(map, posts, Walker { at: from, card }, passed))
 }

@@ -36,15 +36,15 @@ impl Walker {
 pub(crate) fn walk_with<N: Notes>(
     map: &RoadMap<'_>,
     posts: &[Post],
-    card: Card,
-    from: u16,
+    start: Walker,
     notes: &mut N,
 ) -> End
     requires room { N.room notes.old (2 * map.now.n) }
-    ensures end { result ≡ walk_of (chart map.now) (posts_in posts.now) card from }
-    ensures noted { FoldsTo N.noted notes.old (trail_of (chart map.now) (posts_in posts.now) card from) notes.new }
+    ensures end { result ≡ walk_of (chart map.now) (posts_in posts.now) start.card start.at }
+    ensures noted { FoldsTo N.noted notes.old (trail_of (chart map.now) (posts_in posts.now) start.card start.at) notes.new }
 {
-    let mut at = from;
+    let card = start.card;
+    let mut at = start.at;
     let mut cost: u32 = 0;
     for _i in 0..2 * map.n {
         let walker = Walker { at, card };
@@ -67,5 +67,5 @@ pub fn walk(map: &RoadMap<'_>, posts: &[Post], card: Card, from: u16) -> End
     ensures end { result ≡ walk_of (chart map.now) (posts_in posts.now) card from }
     ensures promise { Keeps (chart map.now) (posts_in posts.now) card from result }
 {
-    walk_with(map, posts, card, from, &mut ())
+    walk_with(map, posts, Walker { at: from, card }, &mut ())
 }
