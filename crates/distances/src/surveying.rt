@@ -1,5 +1,5 @@
 // Surveying a map, and looking into what was surveyed.
-ghost use Rattle.std.specs.Prelude.{◌≡◌, cond, ◌&&◌};
+ghost use Rattle.std.specs.Prelude.{◌≡◌, ◌+◌, ◌*◌, ◌<◌, cond, false, nat_lt, ◌&&◌, MatchOption};
 ghost use Rattle.distances.specs.Rows.{far_number, hop_number};
 ghost use Rattle.distances.specs.Surveys.{Surveyed, far_in, hop_in};
 ghost use Rattle.maps.specs.Charts.{ground_of};
@@ -37,27 +37,37 @@ impl Survey {
         &self.map
     }
 
-    // The highest number stands for none here, as it does in the rows that are lent.
+    /// Where the numbers of the way from place `a` to place `d` stand in the rows, if there are such places.
+    fn entry(&self, d: usize, a: usize) -> Option<usize>
+        ensures { MatchOption result ((nat_lt d self.now.map.n && nat_lt a self.now.map.n) ≡ false) (λ at. (d < self.now.map.n) × (a < self.now.map.n) × (at ≡ d * self.now.map.n + a)) }
+    {
+        let n = self.map.len() as usize;
+        if d < n && a < n {
+            Some(d * n + a)
+        } else {
+            None
+        }
+    }
+
+    // The highest number stands for none in both answers, as it does in the rows that are lent. One function for both would take the rows and that number.
     /// How far place `a` is from place `d`; the highest number if there is no way, or no such place.
     pub fn far(&self, d: usize, a: usize) -> u32
         ensures { result ≡ far_in (ground_of self.now.map) d a }
     {
-        let n = self.map.len() as usize;
-        if d >= n || a >= n {
-            return u32::MAX;
+        match self.entry(d, a) {
+            Some(at) => self.dist[at],
+            None => u32::MAX,
         }
-        self.dist[d * n + a]
     }
 
     /// The next place from place `a` towards place `d`; the highest number if there is none, or no such place.
     pub fn hop(&self, d: usize, a: usize) -> u16
         ensures { result ≡ hop_in (ground_of self.now.map) d a }
     {
-        let n = self.map.len() as usize;
-        if d >= n || a >= n {
-            return u16::MAX;
+        match self.entry(d, a) {
+            Some(at) => self.next[at],
+            None => u16::MAX,
         }
-        self.next[d * n + a]
     }
 
     /// All distances and orders, lent to be gone through.

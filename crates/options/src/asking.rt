@@ -1,19 +1,17 @@
 // What a program is asked for before all else: help, or its version.
-ghost use Rattle.std.specs.Prelude.{◌≡◌, false, map, codes, string_bytes};
-ghost use Rattle.std.specs.Str.{bytes_eq};
+ghost use Rattle.std.specs.Prelude.{◌≡◌, map, string_bytes};
 ghost use Rattle.options.specs.Asking.{stands_in, asked_in};
 
 use super::kinds::Asked;
 
-/// Whether an option other than `--` stands among some words, before `--`.
+/// Whether an option stands among some words, before `--`.
 fn stands_in(words: &[String], option: &str) -> bool
-    requires { bytes_eq (codes "--") option.now ≡ false }
     ensures { result ≡ stands_in option.now (map string_bytes words.now) }
 {
     words
         .iter()
-        .take_while(|word| word.as_str() != "--")
-        .any(|word| word.as_str() == option)
+        .find(|word| word.as_str() == option || word.as_str() == "--")
+        .is_some_and(|word| word.as_str() == option)
 }
 
 /// What the words ask for before all else: help, if `--help` stands anywhere before `--`, or else the version, if `--version` does.
