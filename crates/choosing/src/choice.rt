@@ -46,13 +46,14 @@ fn choose_by(
         map.shrink_all(away, ball);
         let turn = Turn {
             map: *map,
+            marks,
             away,
             ball,
             near,
             count,
             room,
         };
-        let Some(best) = turn.pick(marks) else {
+        let Some(best) = turn.pick() else {
             return Err(fullest(near, count));
         };
         marks[best.place] = true;

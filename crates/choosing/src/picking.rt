@@ -11,25 +11,18 @@ use super::turn::{Best, Turn};
 
 impl Turn<'_> {
     /// Picks the next landmark in lent memory, which is overwritten. A place whose bound shows that it leaves no fewer lines than one before it isn't judged.
-    fn pick_in(
-        &self,
-        marks: &[bool],
-        hot: &mut [bool],
-        total: &mut [u32],
-        lost: &mut [u32],
-    ) -> Option<Best>
-        requires marks { length marks.now ≡ self.now.map.rows.n }
+    fn pick_in(&self, hot: &mut [bool], total: &mut [u32], lost: &mut [u32]) -> Option<Best>
         requires hots { length hot.old ≡ self.now.map.rows.n }
         requires totals { length total.old ≡ self.now.map.rows.n }
         requires losts { length lost.old ≡ self.now.map.rows.n }
-        ensures is { (z : Map) → Aways z (marks_in marks.now) self.now.map.rows.n self.now.map.rows.dist.now self.now.away.now → count_below self.now.map.rows.n (marks_in marks.now) ≡ self.now.count → Picked z self.now.room (marks_in marks.now) result }
-        ensures unmarked { Open marks.now self.now.map.rows.n result }
+        ensures is { (z : Map) → Aways z (marks_in self.now.marks.now) self.now.map.rows.n self.now.map.rows.dist.now self.now.away.now → count_below self.now.map.rows.n (marks_in self.now.marks.now) ≡ self.now.count → Picked z self.now.room (marks_in self.now.marks.now) result }
+        ensures unmarked { Open self.now.marks.now self.now.map.rows.n result }
     {
         let most = above(self.near, self.count + 1, self.room);
         self.heat(hot);
         self.bound(hot, total);
         let mut best: Option<Best> = None;
-        for (c, marked) in marks.iter().enumerate() {
+        for (c, marked) in self.marks.iter().enumerate() {
             if !*marked && best.is_none_or(|best| most < best.lines.saturating_add(total[c])) {
                 let lines = self.judge(c, lost);
                 if best.is_none_or(|best| lines < best.lines) {
@@ -42,15 +35,14 @@ impl Turn<'_> {
 
     // Its memory has a fixed size, with a number for each place. A function for each, so that the loop is proved for slices of any length.
     /// The place that isn't a landmark after which the lines above room are fewest, the lowest among equals; none if all are landmarks.
-    pub(crate) fn pick(&self, marks: &[bool]) -> Option<Best>
-        requires marks { length marks.now ≡ self.now.map.rows.n }
-        ensures is { (z : Map) → Aways z (marks_in marks.now) self.now.map.rows.n self.now.map.rows.dist.now self.now.away.now → count_below self.now.map.rows.n (marks_in marks.now) ≡ self.now.count → Picked z self.now.room (marks_in marks.now) result }
-        ensures unmarked { Open marks.now self.now.map.rows.n result }
+    pub(crate) fn pick(&self) -> Option<Best>
+        ensures is { (z : Map) → Aways z (marks_in self.now.marks.now) self.now.map.rows.n self.now.map.rows.dist.now self.now.away.now → count_below self.now.map.rows.n (marks_in self.now.marks.now) ≡ self.now.count → Picked z self.now.room (marks_in self.now.marks.now) result }
+        ensures unmarked { Open self.now.marks.now self.now.map.rows.n result }
     {
         let mut hot = [false; 512];
         let mut total = [0u32; 512];
         let mut lost = [0u32; 512];
         let n = self.map.rows.n;
-        self.pick_in(marks, &mut hot[0..n], &mut total[0..n], &mut lost[0..n])
+        self.pick_in(&mut hot[0..n], &mut total[0..n], &mut lost[0..n])
     }
 }

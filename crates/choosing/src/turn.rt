@@ -16,6 +16,8 @@ pub(crate) struct Ordered<'a> {
 #[derive(Clone, Copy)]
 pub(crate) struct Turn<'a> {
     pub(crate) map: Ordered<'a>,
+    /// Which places are landmarks.
+    pub(crate) marks: &'a [bool],
     /// How far each place is from its landmark.
     pub(crate) away: &'a [u32],
     /// How many places are closer to each place than its landmark is: the first so many of its order.
@@ -26,6 +28,7 @@ pub(crate) struct Turn<'a> {
     pub(crate) count: u32,
     /// For how many lines a post has room.
     pub(crate) room: u32,
+    ghost marked: { length marks.now ≡ map.rows.n },
     ghost aways: { length away.now ≡ map.rows.n },
     ghost balls: { length ball.now ≡ map.rows.n },
     ghost nears: { length near.now ≡ map.rows.n },
