@@ -66,26 +66,23 @@ impl<'a> Tour<'a> {
         self.land.survey().map().len()
     }
 
-    fn show_post(&self, u: usize, post: &Post) -> Result<(), Ended> {
-        self.program
-            .say(format_args!("post {u}: {} lines", post.len()))?;
+    fn show_post(&self, u: usize, post: &Post) {
+        let _ = println!(self.program.rt; "post {u}: {} lines", post.len());
         for line in post.lines() {
-            self.program.say(format_args!("  {line}"))?;
+            let _ = println!(self.program.rt; "  {line}");
         }
-        Ok(())
     }
 
-    // Shows what stands on the posts and on the cards.
-    fn show_plan(&self) -> Result<(), Ended> {
+    // Shows what stands on the posts and on the cards. It is for a look: a line that can't be written is passed over.
+    fn show_plan(&self) {
         for (u, post) in self.posts.iter().enumerate() {
-            self.show_post(u, post)?;
+            self.show_post(u, post);
         }
         for v in 0..self.len() {
             if let Some(card) = card_of(&self.land, v) {
-                self.program.say(card)?;
+                let _ = println!(self.program.rt; "{card}");
             }
         }
-        Ok(())
     }
 
     fn show_walk(&self, from: u16, to: u16) -> Result<(), Ended> {
@@ -123,7 +120,8 @@ impl<'a> Tour<'a> {
 pub(crate) fn show_tour(program: Program<'_>, given: &[String]) -> Result<(), Ended> {
     match given {
         [list, option, files @ ..] if option.as_str() == "--posts" => {
-            Tour::new(program, list.as_str(), files)?.show_plan()
+            Tour::new(program, list.as_str(), files)?.show_plan();
+            Ok(())
         }
         [list, files @ ..] => Tour::new(program, list.as_str(), files)?.show_walks(),
         [] => Err(program.complain("--landmarks wants a list of places")),
