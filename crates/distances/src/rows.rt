@@ -35,7 +35,7 @@ fn work_out_all<O: Order>(map: &RoadMap<'_>, dist: &mut [u32], next: &mut [u16],
     ensures orders { Goes O.holds order.old order.new (map.now.n * map.now.n) (λ _ orders. OrderRows map.now.n dist.new orders) }
 {
     let n = map.n;
-    // By index, since after `chunks_exact_mut` nothing is known of what was written.
+    // By ranges: chunks of both lists, zipped and counted, are no plainer, and no lemma says what was written through them.
     for place in 0..n {
         let target = Target { map: *map, place };
         let from = place * n;
