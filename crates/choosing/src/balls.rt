@@ -51,9 +51,8 @@ impl<'a> Ordered<'a> {
         requires outers { Outers self.now.rows.n self.now.rows.dist.now self.now.rows.order.now away.now ball.old }
         ensures { Balls self.now.rows.n self.now.rows.dist.now self.now.rows.order.now away.now ball.new }
     {
-        // Written by an index: nothing is known of what an adapter of iter_mut wrote.
-        for (v, to) in away.iter().enumerate() {
-            ball[v] = self.shrink(v, *to, ball[v] as usize) as u32;
+        for (v, ball) in ball.iter_mut().enumerate() {
+            *ball = self.shrink(v, away[v], *ball as usize) as u32;
         }
     }
 }

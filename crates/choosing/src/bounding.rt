@@ -16,9 +16,8 @@ impl Turn<'_> {
         requires { length hot.old ≡ self.now.map.rows.n }
         ensures { Hots self.now.map.rows.n self.now.near.now self.now.count self.now.room hot.new }
     {
-        // Written by an index: nothing is known of what an adapter of iter_mut wrote.
-        for (u, near) in self.near.iter().enumerate() {
-            hot[u] = self.count + *near > self.room;
+        for (u, counts) in hot.iter_mut().enumerate() {
+            *counts = self.count + self.near[u] > self.room;
         }
     }
 

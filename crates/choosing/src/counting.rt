@@ -25,9 +25,8 @@ pub(crate) fn lower(row: &[u32], away: &mut [u32])
     requires { length row.now ≡ length away.old }
     ensures { (v : ℕ) → v < length away.old → slice_index away.new v ≡ min (slice_index away.old v) (slice_index row.now v) }
 {
-    // Written by an index: nothing is known of what an adapter of iter_mut wrote.
-    for (v, far) in row.iter().enumerate() {
-        away[v] = away[v].min(*far);
+    for (v, nearest) in away.iter_mut().enumerate() {
+        *nearest = (*nearest).min(row[v]);
     }
 }
 
@@ -39,9 +38,8 @@ impl Ordered<'_> {
         ensures is { Nears self.now.rows.n self.now.rows.dist.now away.now near.new }
         ensures few { All (λ x. x ≤ 512) near.new }
     {
-        // Written by an index: nothing is known of what an adapter of iter_mut wrote.
-        for u in 0..self.rows.n {
-            near[u] = near_count(self.dists(u), away);
+        for (u, here) in near.iter_mut().enumerate() {
+            *here = near_count(self.dists(u), away);
         }
     }
 }
