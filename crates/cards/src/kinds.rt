@@ -1,6 +1,7 @@
 // What stands on a card.
 
 /// Where to go on from the landmark: to the next place, or that there is no hint, since the place is a landmark itself.
+// An enum of its own and no Option, so that a card says in words why there is none.
 #[derive(Clone, Copy, PartialEq, Eq, Debug)]
 pub enum Hint {
     Next(u16),

@@ -6,6 +6,7 @@ ghost use Rattle.distances.specs.Orders.{in_order};
 
 use super::turn::Ordered;
 
+// Places are numbers here: the definitions speak of place v of all rows, and a row of its own would carry v and n all the same.
 impl<'a> Ordered<'a> {
     /// How far all places are from `v`.
     pub(crate) fn dists(&self, v: usize) -> &'a [u32]

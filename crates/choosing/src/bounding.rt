@@ -10,6 +10,7 @@ ghost use Rattle.distances.specs.Orders.{in_order};
 
 use super::turn::Turn;
 
+// What is written is lent by `pick`, each list by itself, since each is written by another of these functions and read by the next.
 impl Turn<'_> {
     /// Marks the posts that would have more lines than room with one landmark more that takes nothing away: these count.
     pub(crate) fn heat(&self, hot: &mut [bool])

@@ -44,6 +44,7 @@ impl Ordered<'_> {
     }
 }
 
+// The three numbers of a post come apart here, with their bounds: they are counted before there is a turn, whose type has the same bounds.
 /// The lines above room in all, where so many places are near each post.
 pub(crate) fn above(near: &[u32], count: u32, room: u32) -> u32
     requires few { length near.now ≤ 512 }
@@ -58,6 +59,7 @@ pub(crate) fn above(near: &[u32], count: u32, room: u32) -> u32
         .sum()
 }
 
+// Like `above`, which is this where nothing is lost: one function would want a list of zeros there.
 /// The lines above room that are left in all, where so many of what is near are lost.
 pub(crate) fn tally(near: &[u32], lost: &[u32], count: u32, room: u32) -> u32
     requires long { length near.now ≡ length lost.now }

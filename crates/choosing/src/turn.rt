@@ -13,6 +13,7 @@ pub(crate) struct Ordered<'a> {
 }
 
 /// The rows of a map, and what the landmarks chosen so far make of them, place by place.
+// A number for each place in lists side by side, since of these a turn writes one anew while it goes by the others.
 #[derive(Clone, Copy)]
 pub(crate) struct Turn<'a> {
     pub(crate) map: Ordered<'a>,

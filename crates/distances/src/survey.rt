@@ -9,6 +9,7 @@ use maps::buf::RoadMapBuf;
 
 /// A map and its rows: the distances from every place to every place, the next places, and all places in the order of their distances from
 /// each, if the map hangs together; that of place 0 first.
+// Lists of plain numbers side by side, as rows are worked out and lent: distances of 32 bits, places of 16.
 #[derive(Drop)]
 pub struct Survey {
     pub(crate) map: RoadMapBuf,

@@ -20,6 +20,7 @@ pub struct UnknownKind(pub u8);
 /// The first record of a map.
 #[derive(Clone, Copy)]
 pub struct MapHead {
+    // The byte as it was read: whether it is that of a map is judged with the rest.
     pub kind: u8,
     pub places: u16,
     pub roads: u16,

@@ -16,6 +16,7 @@ pub fn word_at(part: &[u8], i: usize) -> u16
 }
 
 /// Reads an input record by record.
+// It has its input and its place in one, so that callers carry one value; the price is that each call says that the input stays the same.
 #[derive(Drop)]
 pub struct Reader<'a> {
     bytes: &'a [u8],
