@@ -11,7 +11,7 @@ impl From<Hint> for u16 {
     fn from(hint: Hint) -> u16 {
         match hint {
             Hint::Next(place) => place,
-            Hint::Unneeded => 65535,
+            Hint::Unneeded => u16::MAX,
         }
     }
 }
@@ -22,7 +22,7 @@ impl From<u16> for Hint {
     ghost from_gives = { λ number hint. (hint ≡ hint_from number) × (hint_number hint ≡ number) };
 
     fn from(number: u16) -> Hint {
-        if number == 65535 {
+        if number == u16::MAX {
             Hint::Unneeded
         } else {
             Hint::Next(number)

@@ -3,6 +3,7 @@ ghost use Rattle.std.specs.Prelude.{◌≡◌, ℕ, ◌+◌, List, slice_set};
 ghost use Rattle.distances.specs.Orders.{Room};
 
 /// What becomes of places that are to be noted in lent memory.
+// The memory is an argument and no value of the trait: of a `&mut` inside a type argument no proof could say what it holds at the end.
 pub(crate) trait Order {
     // memory stands for these entries
     ghost holds: { List ℕ → List ℕ → Type 0 };

@@ -61,6 +61,7 @@ pub fn row(map: &RoadMap<'_>, d: usize, dist: &mut [u32], next: &mut [u16]) -> R
     Ok(())
 }
 
+// Both functions for all rows are calls of `work_out_all`; the first lends no memory for orders.
 /// Works out all rows one after the other, that of place 0 first: entry `d * n + a` is that of the way from `a` to `d`.
 /// Takes n times as long as one row. Refuses, and leaves all as it was, memory of another size than n times n.
 pub fn all_rows(map: &RoadMap<'_>, dist: &mut [u32], next: &mut [u16]) -> Result<(), Fault>

@@ -19,6 +19,7 @@ pub fn unreached(map: &RoadMap<'_>) -> Option<u16>
     ensures value { result ≡ lowest_apart (chart map.now) }
     ensures lowest { Lowest (chart map.now) result }
 {
+    // Memory of a fixed size, since this can't fail.
     let mut memory = [u32::MAX; 512];
     let dist = &mut memory[0..map.n];
     let target = Target {

@@ -1,5 +1,5 @@
 -- The arcs of one place as parts of the arrays. Assumes nothing.
-use Rattle.std.proofs.Common.{◌≡◌, ℕ, ◌+◌, ◌-◌, ◌<◌, ◌≤◌, cond, List, [], length, get_or, take, drop, sym, refl, ap, ◌∙◌, arith}
+use Rattle.std.proofs.Common.{◌≡◌, ℕ, ◌+◌, ◌-◌, ◌<◌, ◌≤◌, cond, List, [], length, get_or, take, drop, refl, ap, ◌∙◌, arith}
 use Rattle.std.proofs.lemmas.List.Edits.{length-between, get_or-between}
 use Rattle.std.proofs.lemmas.Bool.{lt-ltb, le-ltb}
 use Rattle.maps.specs.Arcs.{Arcs, arc_part}
@@ -26,7 +26,3 @@ module _ (n : ℕ) (starts places costs : List ℕ) (A : Arcs n starts places co
       let e = part_length n starts places costs A places refl a l in
       let i : get_or starts a 0 + k < get_or starts (a + 1) 0 = omega (arith, e, h) in
       omega (arith, part_at n starts places costs A places refl a l k i, A.inside (get_or starts a 0 + k) (omega (arith, i, starts_most n starts places costs A (a + 1) (omega arith))))
-
-  -- and it has a cost
-  pub parts_level : length (arc_part n starts costs a) ≡ length (arc_part n starts places a)
-  parts_level = part_length n starts places costs A costs A.level a l ∙ sym (part_length n starts places costs A places refl a l)

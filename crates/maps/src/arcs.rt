@@ -5,6 +5,7 @@ ghost use Rattle.maps.specs.Arcs.{arc_part};
 use super::map::RoadMap;
 
 /// The arcs that leave a place, rising by the place to which they lead: `places[k]` at the cost `costs[k]`.
+// Two slices, as the map lends them: parts of its lists of plain numbers.
 #[derive(Clone, Copy)]
 pub struct ArcsFrom<'a> {
     pub places: &'a [u16],

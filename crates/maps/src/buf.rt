@@ -6,6 +6,7 @@ ghost use Rattle.maps.specs.Roads.{faultless, cost_in};
 use super::kinds::Road;
 
 /// A map that owns its memory: its roads, and their arcs in arrays, as `RoadMap` has them.
+// The lists are side by side, since they are lent so.
 #[derive(Drop)]
 pub struct RoadMapBuf {
     pub(crate) n: u16,

@@ -9,6 +9,7 @@ use std::error::Error;
 use std::fmt;
 
 impl Fault {
+    // A method and no conversion, since whoever reads `fault.number()` sees what number it is.
     /// The number by which the fault is told; 0 for want of memory, which is no fault of the input.
     pub fn number(self) -> u8
         ensures { result ≡ number_of self }

@@ -1,4 +1,4 @@
-// What a map is made of: roads, and the faults that an input can have.
+// What a map is made of, roads and arcs, and the faults that an input can have.
 
 /// What is wrong with an input, or that memory ran out; each by the number by which it is told.
 #[derive(Clone, Copy, PartialEq, Eq, Debug)]

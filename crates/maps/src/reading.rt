@@ -6,7 +6,8 @@ use super::arcs::ArcsFrom;
 use super::map::RoadMap;
 
 impl RoadMap<'_> {
-    /// The cost of the road between places `a` and `e`, 0 where there is none. It halves the arcs of `a` until it meets the one to `e`.
+    // 0 and no Option where there is no road, as the map of the definitions has it.
+    /// The cost of the road between places `a` and `e`, 0 where there is none. It halves the arcs of `a` until one is left.
     pub fn cost(&self, a: usize, e: usize) -> u16
         ensures { result ≡ (chart self.now).cost a e }
     {

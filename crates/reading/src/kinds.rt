@@ -1,4 +1,4 @@
-// Where a record stands in an input, and why reading stopped there.
+// Where a record stands in an input, the sorts of records, and why reading stopped.
 use maps::kinds::Fault;
 
 /// Where a record begins: how many records of its sort stand right before it, and at which byte.

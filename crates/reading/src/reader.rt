@@ -85,12 +85,9 @@ impl<'a> Reader<'a> {
         ensures at { self.new.at ≡ (if is_ok check then after self.old.at size else self.old.at) }
         ensures same { self.new.bytes.now ≡ self.old.bytes.now }
     {
-        let at = self.at;
-        check.map_err(|fault| Refusal {
-            fault,
-            record: sort,
-            at,
-        })?;
+        if let Err(fault) = check {
+            return Err(self.refusal(fault, sort));
+        }
         self.at = Place {
             index: self.at.index + 1,
             byte: self.at.byte + size,
@@ -116,11 +113,9 @@ impl<'a> Reader<'a> {
         ensures same { self.new.bytes.now ≡ self.old.bytes.now }
     {
         self.begin();
-        let at = self.at;
-        check.map_err(|fault| Refusal {
-            fault,
-            record: Record::End,
-            at,
-        })
+        if let Err(fault) = check {
+            return Err(self.refusal(fault, Record::End));
+        }
+        Ok(())
     }
 }

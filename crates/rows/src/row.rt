@@ -5,11 +5,12 @@ ghost use Rattle.rows.specs.Words.{entry_words, row_words};
 use std::fmt;
 
 /// The row of a place: the distance from each place, and the next place from it, or the highest number where there is none.
+// Both lists as a row has them, and the highest number for none with them.
 #[derive(Clone, Copy)]
 pub(crate) struct Row<'a> {
-    pub to: usize,
-    pub dist: &'a [u32],
-    pub next: &'a [u16],
+    pub(crate) to: usize,
+    pub(crate) dist: &'a [u32],
+    pub(crate) next: &'a [u16],
 }
 
 // What a row says of one place.

@@ -8,10 +8,10 @@ use walking::kinds::End;
 /// A walk between two places: the places passed on the way, and how it ended.
 #[derive(Clone, Copy)]
 pub(crate) struct Walk<'a> {
-    pub from: u16,
-    pub to: u16,
-    pub passed: &'a [u16],
-    pub end: End,
+    pub(crate) from: u16,
+    pub(crate) to: u16,
+    pub(crate) passed: &'a [u16],
+    pub(crate) end: End,
 }
 
 impl fmt::Display for Walk<'_> {

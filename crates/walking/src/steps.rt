@@ -1,4 +1,4 @@
-// A walker's step at a post.
+// A walker's step at a post, and the number of the end of a walk.
 ghost use Rattle.std.specs.Prelude.{◌≡◌, []};
 ghost use Rattle.posts.specs.Posts.{told};
 ghost use Rattle.walking.specs.Walks.{as_hint, as_step, past_near, step_of, posts_in, end_number};

@@ -43,14 +43,12 @@ pub(crate) fn walk_with<N: Notes>(
     ensures end { result ≡ walk_of (chart map.now) (posts_in posts.now) start.card start.at }
     ensures noted { FoldsTo N.noted notes.old (trail_of (chart map.now) (posts_in posts.now) start.card start.at) notes.new }
 {
-    let card = start.card;
-    let mut at = start.at;
+    let mut walker = start;
     let mut cost: u32 = 0;
     for _i in 0..2 * map.n {
-        let walker = Walker { at, card };
         match walker.turn(map, posts, cost) {
             Ok(leg) => {
-                at = leg.place;
+                walker.at = leg.place;
                 cost += leg.toll as u32;
                 notes.note(leg.place);
             }

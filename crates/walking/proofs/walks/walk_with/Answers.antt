@@ -11,7 +11,7 @@ use Rattle.walking.proofs.walks.walk_with.Goals as goal
 pub overflow_add-cost : goal.overflow_add-cost
 overflow_add-cost g c =
     let z = chart c.args.map.now in
-    let cheap = gone_cheap z c.loop-i.cost c.loop-i.at c.in-Ok.leg (step_of (posts_in c.args.posts.now c.loop-i.at) c.args.start.card c.loop-i.at) (view_means c.args.map.now).cheap c.in-Ok.ensures in
+    let cheap = gone_cheap z c.loop-i.cost c.loop-i.walker.at c.in-Ok.leg (step_of (posts_in c.args.posts.now c.loop-i.walker.at) c.loop-i.walker.card c.loop-i.walker.at) (view_means c.args.map.now).cheap c.in-Ok.ensures in
     omega (arith, c.loop-i.invariant.1, cheap, (view_arcs c.args.map.now).few, c.loop-i-test.true)
 
 pub note-requires : goal.note-requires
@@ -24,10 +24,10 @@ pub loop-i-preserved : goal.loop-i-preserved
 loop-i-preserved g c =
     let z = chart c.args.map.now in
     let posts = posts_in c.args.posts.now in
-    let card = c.args.start.card in
+    let card = c.loop-i.walker.card in
     let m = 2 * c.args.map.now.n in
     let i = c.loop-i._i in
-    let at = c.loop-i.at in
+    let at = c.loop-i.walker.at in
     let leg = c.in-Ok.leg in
     let cheap = gone_cheap z c.loop-i.cost at leg (step_of (posts at) card at) (view_means c.args.map.now).cheap c.in-Ok.ensures in
     let e : m - i ≡ (m - (i + 1)) + 1 = omega (arith, c.loop-i-test.true) in (
@@ -43,9 +43,9 @@ returns-in-Err g c =
     let z = chart c.args.map.now in
     let posts = posts_in c.args.posts.now in
     let m = 2 * c.args.map.now.n in
-    let none = trail_over z posts c.args.start.card m c.loop-i._i c.loop-i.cost c.loop-i.at c.loop-i-test.true c.in-Err.end c.in-Err.ensures in
+    let none = trail_over z posts c.loop-i.walker.card m c.loop-i._i c.loop-i.cost c.loop-i.walker.at c.loop-i-test.true c.in-Err.end c.in-Err.ensures in
     record {
-      end = turn_over z posts c.args.start.card m c.loop-i._i c.loop-i.cost c.loop-i.at c.loop-i-test.true c.in-Err.end c.in-Err.ensures ∙ c.loop-i.invariant.0;
+      end = turn_over z posts c.loop-i.walker.card m c.loop-i._i c.loop-i.cost c.loop-i.walker.at c.loop-i-test.true c.in-Err.end c.in-Err.ensures ∙ c.loop-i.invariant.0;
       noted = c.loop-i.invariant.3 c.loop-i.notes (subst (λ (places : List ℕ). FoldsTo g.N.Notes.noted c.loop-i.notes places c.loop-i.notes) (sym none) refl);
     }
 
@@ -55,8 +55,8 @@ returns g c =
     let posts = posts_in c.args.posts.now in
     let m = 2 * c.args.map.now.n in
     let spent : m - c.loop-i._i ≡ 0 = omega (arith, c.loop-i-test.false) in
-    let none = trail_ends (m - c.loop-i._i) z posts c.args.start.card c.loop-i.at spent in
+    let none = trail_ends (m - c.loop-i._i) z posts c.loop-i.walker.card c.loop-i.walker.at spent in
     record {
-      end = sym (travels_none (m - c.loop-i._i) z posts c.args.start.card c.loop-i.cost c.loop-i.at spent) ∙ c.loop-i.invariant.0;
+      end = sym (travels_none (m - c.loop-i._i) z posts c.loop-i.walker.card c.loop-i.cost c.loop-i.walker.at spent) ∙ c.loop-i.invariant.0;
       noted = c.loop-i.invariant.3 c.loop-i.notes (subst (λ (places : List ℕ). FoldsTo g.N.Notes.noted c.loop-i.notes places c.loop-i.notes) (sym none) refl);
     }

@@ -7,8 +7,8 @@ use Rattle.walking.proofs.walks.walk_with.Given as goal
 
 abbrev pub invariant-loop-i : goal.invariant-loop-i
 invariant-loop-i g l =
-    (travels (2 * l.map.n - l._i) (chart l.map) (posts_in l.posts) l.fn.start.card l.cost l.at ≡ walk_of (chart l.map) (posts_in l.posts) l.fn.start.card l.fn.start.at)
+    (travels (2 * l.map.n - l._i) (chart l.map) (posts_in l.posts) l.walker.card l.cost l.walker.at ≡ walk_of (chart l.map) (posts_in l.posts) l.fn.start.card l.fn.start.at)
     × (l.cost ≤ 65535 * l._i)
     × g.N.Notes.room l.notes (2 * l.map.n - l._i)
-    × ((last : _) → FoldsTo g.N.Notes.noted l.notes (trail (2 * l.map.n - l._i) (chart l.map) (posts_in l.posts) l.fn.start.card l.at) last
+    × ((last : _) → FoldsTo g.N.Notes.noted l.notes (trail (2 * l.map.n - l._i) (chart l.map) (posts_in l.posts) l.walker.card l.walker.at) last
     → FoldsTo g.N.Notes.noted l.initial.notes (trail_of (chart l.map) (posts_in l.posts) l.fn.start.card l.fn.start.at) last)
