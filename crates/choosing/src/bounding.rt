@@ -18,7 +18,7 @@ impl Turn<'_> {
         ensures { Hots self.now.map.rows.n self.now.near.now self.now.count self.now.room hot.new }
     {
         for (u, counts) in hot.iter_mut().enumerate() {
-            *counts = self.count + self.near[u] > self.room;
+            *counts = self.count + self.near[u] > u32::from(self.room);
         }
     }
 

@@ -10,7 +10,7 @@ fn near_count(row: &[u32], away: &[u32]) -> u32
     requires few { length away.now ≤ 512 }
     ensures { result ≡ near_by (length away.now) row.now away.now }
 {
-    // By an index into the other row: a chain over zip counts the same in twice the time of a whole choice, 0.30 s for 0.15 s.
+    // With a zip a whole choice on 512 places takes 0.30 s, with an index 0.15 s.
     let mut near: u32 = 0;
     for (v, far) in row.iter().enumerate() {
         if *far < away[v] {
@@ -46,33 +46,31 @@ impl Ordered<'_> {
 
 // The three numbers of a post come apart here, with their bounds: they are counted before there is a turn, whose type has the same bounds.
 /// The lines above room in all, where so many places are near each post.
-pub(crate) fn above(near: &[u32], count: u32, room: u32) -> u32
+pub(crate) fn above(near: &[u32], count: u32, room: u8) -> u32
     requires few { length near.now ≤ 512 }
     requires nears { All (λ x. x ≤ 512) near.now }
     requires counts { count ≤ 512 }
-    requires rooms { room ≤ 255 }
     ensures is { result ≡ over_below near.now count room (length near.now) }
     ensures small { result ≤ 1024 * length near.now }
 {
     near.iter()
-        .map(|near| (count + *near).saturating_sub(room + 1))
+        .map(|near| (count + *near).saturating_sub(u32::from(room) + 1))
         .sum()
 }
 
 // Like `above`, which is this where nothing is lost: one function would want a list of zeros there.
 /// The lines above room that are left in all, where so many of what is near are lost.
-pub(crate) fn tally(near: &[u32], lost: &[u32], count: u32, room: u32) -> u32
+pub(crate) fn tally(near: &[u32], lost: &[u32], count: u32, room: u8) -> u32
     requires long { length near.now ≡ length lost.now }
     requires few { length lost.now ≤ 512 }
     requires nears { All (λ x. x ≤ 512) near.now }
     requires losts { All (λ x. x ≤ 512) lost.now }
     requires counts { count ≤ 512 }
-    requires rooms { room ≤ 255 }
     ensures is { result ≡ left_below near.now lost.now count room (length lost.now) }
     ensures small { result ≤ 1024 * length lost.now }
 {
     near.iter()
         .zip(lost)
-        .map(|(near, lost)| (count + *near).saturating_sub(*lost + (room + 1)))
+        .map(|(near, lost)| (count + *near).saturating_sub(*lost + (u32::from(room) + 1)))
         .sum()
 }

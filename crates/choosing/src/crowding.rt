@@ -13,6 +13,7 @@ pub(crate) fn fullest(near: &[u32], count: u32) -> Crowd
     requires counts { count ≤ 512 }
     ensures { Fullest near.now count result }
 {
+    // The library's `max_by_key` takes the last among equals, and with the order reversed it is no plainer.
     let mut post: usize = 0;
     for (u, here) in near.iter().enumerate() {
         if *here > near[post] {

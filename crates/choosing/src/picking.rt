@@ -21,6 +21,7 @@ impl Turn<'_> {
         let most = above(self.near, self.count + 1, self.room);
         self.heat(hot);
         self.bound(hot, total);
+        // No `min_by_key`: which places are judged depends on the best so far.
         let mut best: Option<Best> = None;
         for (c, marked) in self.marks.iter().enumerate() {
             if !*marked && best.is_none_or(|best| most < best.lines.saturating_add(total[c])) {
@@ -33,7 +34,8 @@ impl Turn<'_> {
         best
     }
 
-    // Its memory has a fixed size, with a number for each place. A function for each, so that the loop is proved for slices of any length.
+    // Its memory, with a number for each place, has a fixed size, so that choosing allocates its answer alone. Two functions, so that the loop is
+    // proved for slices of any length.
     /// The place that isn't a landmark after which the lines above room are fewest, the lowest among equals; none if all are landmarks.
     pub(crate) fn pick(&self) -> Option<Best>
         ensures is { (z : Map) → Aways z (marks_in self.now.marks.now) self.now.map.rows.n self.now.map.rows.dist.now self.now.away.now → count_below self.now.map.rows.n (marks_in self.now.marks.now) ≡ self.now.count → Picked z self.now.room (marks_in self.now.marks.now) result }

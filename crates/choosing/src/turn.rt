@@ -28,13 +28,12 @@ pub(crate) struct Turn<'a> {
     /// How many landmarks there are.
     pub(crate) count: u32,
     /// For how many lines a post has room.
-    pub(crate) room: u32,
+    pub(crate) room: u8,
     ghost marked: { length marks.now ≡ map.rows.n },
     ghost aways: { length away.now ≡ map.rows.n },
     ghost balls: { length ball.now ≡ map.rows.n },
     ghost nears: { length near.now ≡ map.rows.n },
     ghost counts: { count < 512 },
-    ghost rooms: { room ≤ 255 },
     ghost ball_is: { Balls map.rows.n map.rows.dist.now map.rows.order.now away.now ball.now },
     ghost near_few: { All (λ x. x ≤ 512) near.now },
     ghost near_is: { Nears map.rows.n map.rows.dist.now away.now near.now },
