@@ -17,6 +17,7 @@ impl Turn<'_> {
         requires { length hot.old ≡ self.now.map.rows.n }
         ensures { Hots self.now.map.rows.n self.now.near.now self.now.count self.now.room hot.new }
     {
+        // With an index into `near`: of what is written through a zip of `iter_mut` a proof knows nothing afterwards.
         for (u, counts) in hot.iter_mut().enumerate() {
             *counts = self.count + self.near[u] > u32::from(self.room);
         }

@@ -25,6 +25,7 @@ pub(crate) fn lower(row: &[u32], away: &mut [u32])
     requires { length row.now ≡ length away.old }
     ensures { (v : ℕ) → v < length away.old → slice_index away.new v ≡ min (slice_index away.old v) (slice_index row.now v) }
 {
+    // With an index into the row: of what is written through a zip of `iter_mut` a proof knows nothing afterwards.
     for (v, nearest) in away.iter_mut().enumerate() {
         *nearest = (*nearest).min(row[v]);
     }
