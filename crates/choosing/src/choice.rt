@@ -5,10 +5,9 @@ ghost use Rattle.choosing.specs.Tables.{Table};
 ghost use Rattle.maps.specs.Charts.{ground_of};
 ghost use Rattle.ways.specs.Map.{Map};
 
-use super::counting::{above, lower};
-use super::crowding::fullest;
+use super::counting::lower;
 use super::kinds::{Crowd, Unchosen};
-use super::turn::{Ordered, Turn};
+use super::turn::{Lines, Ordered, Turn};
 use distances::survey::Survey;
 use distances::unreached::unreached;
 use std::alloc::Global;
@@ -37,11 +36,12 @@ fn choose_by(
     // It is left by its label when every post has room.
     'choosing: loop {
         map.count_near(away, near);
-        if above(near, count, room) == 0 {
+        let lines = Lines { near, count };
+        if lines.above(room) == 0 {
             break 'choosing;
         }
         if count > u32::from(room) {
-            return Err(fullest(near, count));
+            return Err(lines.fullest());
         }
         map.shrink_all(away, ball);
         let turn = Turn {
@@ -49,12 +49,11 @@ fn choose_by(
             marks,
             away,
             ball,
-            near,
-            count,
+            lines,
             room,
         };
         let Some(best) = turn.pick() else {
-            return Err(fullest(near, count));
+            return Err(lines.fullest());
         };
         marks[best.place] = true;
         lower(map.dists(best.place), away);
