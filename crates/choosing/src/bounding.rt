@@ -15,10 +15,11 @@ impl Turn<'_> {
     /// Marks the posts that would have more lines than room with one landmark more that takes nothing away: these count.
     pub(crate) fn heat(&self, hot: &mut [bool])
         requires { length hot.old ≡ self.now.map.rows.n }
-        ensures { Hots self.now.map.rows.n self.now.near.now self.now.count self.now.room hot.new }
+        ensures { Hots self.now.map.rows.n self.now.lines.near.now self.now.lines.count self.now.room hot.new }
     {
+        // With an index into `near`: of what is written through a zip of `iter_mut` a proof knows nothing afterwards.
         for (u, counts) in hot.iter_mut().enumerate() {
-            *counts = self.count + self.near[u] > self.room;
+            *counts = self.lines.count + self.lines.near[u] > u32::from(self.room);
         }
     }
 

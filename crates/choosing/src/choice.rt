@@ -5,10 +5,9 @@ ghost use Rattle.choosing.specs.Tables.{Table};
 ghost use Rattle.maps.specs.Charts.{ground_of};
 ghost use Rattle.ways.specs.Map.{Map};
 
-use super::counting::{above, lower};
-use super::crowding::fullest;
+use super::counting::lower;
 use super::kinds::{Crowd, Unchosen};
-use super::turn::{Ordered, Turn};
+use super::turn::{Lines, Ordered, Turn};
 use distances::survey::Survey;
 use distances::unreached::unreached;
 use std::alloc::Global;
@@ -17,7 +16,7 @@ use std::alloc::Global;
 /// the other memory with what was worked out from them.
 fn choose_by(
     map: &Ordered<'_>,
-    room: u32,
+    room: u8,
     marks: &mut [bool],
     away: &mut [u32],
     ball: &mut [u32],
@@ -27,7 +26,6 @@ fn choose_by(
     requires aways { length away.old ≡ map.now.rows.n }
     requires balls { length ball.old ≡ map.now.rows.n }
     requires nears { length near.old ≡ map.now.rows.n }
-    requires rooms { room ≤ 255 }
     ensures { (z : Map) → Table z map.now.rows.n map.now.rows.dist.now → Stopped z room marks.new result }
 {
     marks.fill(false);
@@ -35,13 +33,15 @@ fn choose_by(
     away.copy_from_slice(map.dists(0));
     ball.fill(map.rows.n as u32);
     let mut count: u32 = 1;
+    // It is left by its label when every post has room.
     'choosing: loop {
         map.count_near(away, near);
-        if above(near, count, room) == 0 {
+        let lines = Lines { near, count };
+        if lines.above(room) == 0 {
             break 'choosing;
         }
-        if count > room {
-            return Err(fullest(near, count));
+        if count > u32::from(room) {
+            return Err(lines.fullest());
         }
         map.shrink_all(away, ball);
         let turn = Turn {
@@ -49,12 +49,11 @@ fn choose_by(
             marks,
             away,
             ball,
-            near,
-            count,
+            lines,
             room,
         };
         let Some(best) = turn.pick() else {
-            return Err(fullest(near, count));
+            return Err(lines.fullest());
         };
         marks[best.place] = true;
         lower(map.dists(best.place), away);
@@ -63,10 +62,10 @@ fn choose_by(
     Ok(())
 }
 
-/// The same in memory of its own, of a fixed size, with a number for each place. A function for each, so that the loop is proved for slices of any length.
-fn choose_on(map: &Ordered<'_>, room: u32, marks: &mut [bool]) -> Result<(), Crowd>
+/// The same in memory of its own, with a number for each place.
+// Of a fixed size, so that choosing allocates its answer alone. Two functions, so that the loop is proved for slices of any length.
+fn choose_on(map: &Ordered<'_>, room: u8, marks: &mut [bool]) -> Result<(), Crowd>
     requires marks { length marks.old ≡ map.now.rows.n }
-    requires rooms { room ≤ 255 }
     ensures { (z : Map) → Table z map.now.rows.n map.now.rows.dist.now → Stopped z room marks.new result }
 {
     let mut away = [0u32; 512];
@@ -97,6 +96,6 @@ pub fn choose(heap: Global, survey: &Survey, room: u8) -> Result<Vec<bool>, Unch
         rows: survey.rows(),
     };
     let mut marks = vec![in heap; false; map.rows.n]?;
-    choose_on(&map, u32::from(room), &mut marks)?;
+    choose_on(&map, room, &mut marks)?;
     Ok(marks)
 }

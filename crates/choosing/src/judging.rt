@@ -6,8 +6,7 @@ ghost use Rattle.landmarks.specs.Landmarks.{Marks};
 ghost use Rattle.ways.specs.Map.{Map};
 ghost use Rattle.ways.specs.Ways.{count_below};
 
-use super::counting::tally;
-use super::turn::Turn;
+use super::turn::{Lines, Turn};
 
 impl Turn<'_> {
     /// One more lost at each post that has `v` as near and is at `from` from it or farther: these are the last of the ball of `v`.
@@ -33,7 +32,7 @@ impl Turn<'_> {
     pub(crate) fn judge(&self, c: usize, lost: &mut [u32]) -> u32
         requires there { c < self.now.map.rows.n }
         requires losts { length lost.old ≡ self.now.map.rows.n }
-        ensures is { (z : Map) (l : Marks) → Aways z l self.now.map.rows.n self.now.map.rows.dist.now self.now.away.now → count_below self.now.map.rows.n l ≡ self.now.count → l c ≡ false → result ≡ above z self.now.room (with_mark c l) }
+        ensures is { (z : Map) (l : Marks) → Aways z l self.now.map.rows.n self.now.map.rows.dist.now self.now.away.now → count_below self.now.map.rows.n l ≡ self.now.lines.count → l c ≡ false → result ≡ above z self.now.room (with_mark c l) }
         ensures small { result ≤ 1024 * self.now.map.rows.n }
     {
         lost.fill(0);
@@ -42,6 +41,10 @@ impl Turn<'_> {
                 self.fade(v, *from, lost);
             }
         }
-        tally(self.near, lost, self.count + 1, self.room)
+        let more = Lines {
+            near: self.lines.near,
+            count: self.lines.count + 1,
+        };
+        more.tally(lost, self.room)
     }
 }

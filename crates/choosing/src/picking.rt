@@ -6,8 +6,7 @@ ghost use Rattle.landmarks.specs.Landmarks.{marks_in};
 ghost use Rattle.ways.specs.Map.{Map};
 ghost use Rattle.ways.specs.Ways.{count_below};
 
-use super::counting::above;
-use super::turn::{Best, Turn};
+use super::turn::{Best, Lines, Turn};
 
 impl Turn<'_> {
     /// Picks the next landmark in lent memory, which is overwritten. A place whose bound shows that it leaves no fewer lines than one before it isn't judged.
@@ -15,12 +14,17 @@ impl Turn<'_> {
         requires hots { length hot.old ≡ self.now.map.rows.n }
         requires totals { length total.old ≡ self.now.map.rows.n }
         requires losts { length lost.old ≡ self.now.map.rows.n }
-        ensures is { (z : Map) → Aways z (marks_in self.now.marks.now) self.now.map.rows.n self.now.map.rows.dist.now self.now.away.now → count_below self.now.map.rows.n (marks_in self.now.marks.now) ≡ self.now.count → Picked z self.now.room (marks_in self.now.marks.now) result }
+        ensures is { (z : Map) → Aways z (marks_in self.now.marks.now) self.now.map.rows.n self.now.map.rows.dist.now self.now.away.now → count_below self.now.map.rows.n (marks_in self.now.marks.now) ≡ self.now.lines.count → Picked z self.now.room (marks_in self.now.marks.now) result }
         ensures unmarked { Open self.now.marks.now self.now.map.rows.n result }
     {
-        let most = above(self.near, self.count + 1, self.room);
+        let more = Lines {
+            near: self.lines.near,
+            count: self.lines.count + 1,
+        };
+        let most = more.above(self.room);
         self.heat(hot);
         self.bound(hot, total);
+        // No `min_by_key`: which places are judged depends on the best so far.
         let mut best: Option<Best> = None;
         for (c, marked) in self.marks.iter().enumerate() {
             if !*marked && best.is_none_or(|best| most < best.lines.saturating_add(total[c])) {
@@ -33,10 +37,11 @@ impl Turn<'_> {
         best
     }
 
-    // Its memory has a fixed size, with a number for each place. A function for each, so that the loop is proved for slices of any length.
+    // Its memory, with a number for each place, has a fixed size, so that choosing allocates its answer alone. Two functions, so that the loop is
+    // proved for slices of any length.
     /// The place that isn't a landmark after which the lines above room are fewest, the lowest among equals; none if all are landmarks.
     pub(crate) fn pick(&self) -> Option<Best>
-        ensures is { (z : Map) → Aways z (marks_in self.now.marks.now) self.now.map.rows.n self.now.map.rows.dist.now self.now.away.now → count_below self.now.map.rows.n (marks_in self.now.marks.now) ≡ self.now.count → Picked z self.now.room (marks_in self.now.marks.now) result }
+        ensures is { (z : Map) → Aways z (marks_in self.now.marks.now) self.now.map.rows.n self.now.map.rows.dist.now self.now.away.now → count_below self.now.map.rows.n (marks_in self.now.marks.now) ≡ self.now.lines.count → Picked z self.now.room (marks_in self.now.marks.now) result }
         ensures unmarked { Open self.now.marks.now self.now.map.rows.n result }
     {
         let mut hot = [false; 512];

@@ -12,6 +12,18 @@ pub(crate) struct Ordered<'a> {
     ghost sorted: { Ranked rows.n rows.dist.now rows.order.now },
 }
 
+/// What the lines of all posts are counted from.
+#[derive(Clone, Copy)]
+pub(crate) struct Lines<'a> {
+    /// How many places are near each place, itself among them unless it is a landmark.
+    pub(crate) near: &'a [u32],
+    /// How many landmarks there are.
+    pub(crate) count: u32,
+    ghost few: { length near.now ≤ 512 },
+    ghost small: { All (λ x. x ≤ 512) near.now },
+    ghost counts: { count ≤ 512 },
+}
+
 /// The rows of a map, and what the landmarks chosen so far make of them, place by place.
 // A number for each place in lists side by side, since of these a turn writes one anew while it goes by the others.
 #[derive(Clone, Copy)]
@@ -23,21 +35,17 @@ pub(crate) struct Turn<'a> {
     pub(crate) away: &'a [u32],
     /// How many places are closer to each place than its landmark is: the first so many of its order.
     pub(crate) ball: &'a [u32],
-    /// How many places are near each place, itself among them unless it is a landmark.
-    pub(crate) near: &'a [u32],
-    /// How many landmarks there are.
-    pub(crate) count: u32,
+    /// What is near each place, and how many landmarks there are.
+    pub(crate) lines: Lines<'a>,
     /// For how many lines a post has room.
-    pub(crate) room: u32,
+    pub(crate) room: u8,
     ghost marked: { length marks.now ≡ map.rows.n },
     ghost aways: { length away.now ≡ map.rows.n },
     ghost balls: { length ball.now ≡ map.rows.n },
-    ghost nears: { length near.now ≡ map.rows.n },
-    ghost counts: { count < 512 },
-    ghost rooms: { room ≤ 255 },
+    ghost nears: { length lines.near.now ≡ map.rows.n },
+    ghost counts: { lines.count < 512 },
     ghost ball_is: { Balls map.rows.n map.rows.dist.now map.rows.order.now away.now ball.now },
-    ghost near_few: { All (λ x. x ≤ 512) near.now },
-    ghost near_is: { Nears map.rows.n map.rows.dist.now away.now near.now },
+    ghost near_is: { Nears map.rows.n map.rows.dist.now away.now lines.near.now },
 }
 
 /// A place, and how many lines would be above room in all if it were a landmark.

@@ -7,6 +7,7 @@ use posts::kinds::Post;
 
 /// A plan: which places are landmarks, in rising order, and the post and the card of every place, that of place 0 first; a post has room for
 /// `room` lines. Whether it is the plan of some map is for contracts to say: one that was read may be wrong.
+// Posts and cards are lists by place, side by side, as each is lent by itself.
 #[derive(Drop)]
 pub struct Plan {
     pub(crate) room: u8,
@@ -20,6 +21,7 @@ pub struct Plan {
 }
 
 /// Why there is no plan.
+// Its cases stand side by side with those of choosing, so that who plans matches one enum.
 #[derive(Clone, Copy, PartialEq, Eq, Debug)]
 pub enum NoPlan {
     /// A post is to have room for fewer than 8 lines.

@@ -1,5 +1,5 @@
 // The plan of a surveyed map with landmarks: its landmarks, posts and cards, listed.
-ghost use Rattle.std.specs.Prelude.{◌≡◌, ℕ, ◌<◌, ◌≤◌, [], map, length, IfOk, vec_len, MatchOption, slice_index_or};
+ghost use Rattle.std.specs.Prelude.{◌≡◌, ℕ, ◌<◌, ◌≤◌, [], map, length, IfOk, vec_len, MatchBool, slice_index_or};
 ghost use Rattle.cards.specs.Cards.{card_of};
 ghost use Rattle.landmarks.specs.Lands.{map_in, marks_of};
 ghost use Rattle.plans.specs.Plans.{marked};
@@ -34,13 +34,13 @@ fn cards_of(heap: Global, land: &Land) -> Result<Vec<Card>, AllocError>
     (0..n).map(|v| card_of(land, v).unwrap()).collect(heap)
 }
 
-/// The first post that has more lines than there is room for.
-fn first_full(posts: &[Post], room: u8) -> Option<usize>
-    ensures { MatchOption result
-        ((u : ℕ) → u < length posts.now → length (slice_index_or (map told posts.now) u []) ≤ room)
-        (λ u. (u < length posts.now) × (room < length (slice_index_or (map told posts.now) u []))) }
+/// Whether some post has more lines than there is room for.
+fn any_full(posts: &[Post], room: u8) -> bool
+    ensures { MatchBool result
+        ((u : ℕ) × (u < length posts.now) × (room < length (slice_index_or (map told posts.now) u [])))
+        ((u : ℕ) → u < length posts.now → length (slice_index_or (map told posts.now) u []) ≤ room) }
 {
-    posts.iter().position(|post| post.len() > usize::from(room))
+    posts.iter().any(|post| post.len() > usize::from(room))
 }
 
 /// The plan of a surveyed map with its landmarks, for posts with room for so many lines. Takes n times n steps.
@@ -49,7 +49,7 @@ pub fn plan_of(heap: Global, land: &Land, room: u8) -> Result<Plan, Fault>
     ensures { Listed (map_in land.now) room (marks_of land.now) result }
 {
     let posts = posts_of(heap, land)?;
-    if first_full(&posts, room).is_some() {
+    if any_full(&posts, room) {
         return Err(Fault::Room);
     }
     let landmarks = landmarks_of(heap, land)?;

@@ -1,4 +1,4 @@
-// Why there is no plan.
+// The fault of each reason for which there is no plan, and what else is one of them.
 ghost use Rattle.std.specs.Prelude.{◌≡◌};
 ghost use Rattle.plans.specs.NoPlans.{no_plan_fault, unchosen_as};
 ghost use Rattle.plans.specs.declared.kinds.NoPlan.TheVariants.{Memory};

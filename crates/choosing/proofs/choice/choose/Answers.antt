@@ -9,7 +9,7 @@ use Rattle.maps.specs.declared.map.RoadMap.{RoadMap}
 use Rattle.maps.proofs.Views.{view_is}
 use Rattle.distances.specs.Unreached.{Lowest}
 use Rattle.landmarks.specs.Landmarks.{marks_in}
-use Rattle.choosing.specs.Choosing.{Marked, chosen}
+use Rattle.choosing.specs.Choosing.{Marked}
 use Rattle.choosing.specs.Chosen.{Chose}
 use Rattle.choosing.specs.declared.kinds.Crowd.{Crowd}
 use Rattle.choosing.specs.declared.kinds.Unchosen.{Unchosen}
@@ -63,7 +63,7 @@ returns-in_err-choose_on c =
     let crowd = c.in_err-choose_on.field-0.0 in
     let w = c.in_err-choose_on.ensures (ground_of s.map) t in
     passed (ground_of s.map) c.args.room crowd c.from_residual-in_err-choose_on.result c.from_residual-in_err-choose_on.ensures.1
-    (h, marks_in c.choose_on.new.marks, ap (chosen (ground_of s.map)) (sym c.from.ensures) ∙ w.0, w.1)
+    (h, marks_in c.choose_on.new.marks, w.0, w.1)
 
 pub returns : goal.returns
 returns c =
@@ -75,5 +75,5 @@ returns c =
     let len : c.in_ok-marks.marks.len ≡ r.n = search rules in (
       h,
       len ∙ c.rows.ensures.n,
-      ap (chosen (ground_of s.map)) (sym c.from.ensures) ∙ c.in_ok-choose_on.ensures (ground_of s.map) t ∙ ap (λ (xs : List Bool). Marked (marks_in xs)) (sym (take_at c.choose_on.new.marks _ c.in_ok-marks.marks.len l)),
+      c.in_ok-choose_on.ensures (ground_of s.map) t ∙ ap (λ (xs : List Bool). Marked (marks_in xs)) (sym (take_at c.choose_on.new.marks _ c.in_ok-marks.marks.len l)),
     )

@@ -17,15 +17,15 @@ choosing-init c =
       outers = outers_start r.n r.dist.now r.order.now c.copy_from_slice.new.self c.fill-2.new.self (length c.args.ball.now) c.requires.balls (c.fill-2.ensures.after (λ y e. e));
     }
 
-pub returns-then-count-room : goal.returns-then-count-room
-returns-then-count-room c =
+pub returns-then-count-from : goal.returns-then-count-from
+returns-then-count-from c =
     let r = c.args.map.now.rows in
     let l = c.choosing in
     let near = c.count_near.new.near in
     let long : length near ≡ r.n = omega arith in
     let some : over_below near l.count c.args.room r.n ≡ 0 → ⊥ = λ h. c.if-above-eq0.false (c.above.ensures.is ∙ ap (over_below near l.count c.args.room) long ∙ h) in
     λ z t. (
-      turn_full z c.args.room r.n r.dist.now l.marks l.away l.count (l.invariant.rule z t) l.invariant.few near c.count_near.ensures.is some c.if-count-room.true,
+      turn_full z c.args.room r.n r.dist.now l.marks l.away l.count (l.invariant.rule z t) l.invariant.few near c.count_near.ensures.is some (omega (arith, c.if-count-from.true, c.from.ensures)),
       turn_crowd z c.args.room r.n r.dist.now l.marks l.away l.count (l.invariant.rule z t) l.invariant.few near c.count_near.ensures.is some c.fullest.result long c.fullest.ensures,
     )
 
@@ -37,7 +37,7 @@ returns-in_default c =
     let long : length near ≡ r.n = omega arith in
     let some : over_below near l.count c.args.room r.n ≡ 0 → ⊥ = λ h. c.if-above-eq0.false (c.above.ensures.is ∙ ap (over_below near l.count c.args.room) long ∙ h) in
     λ z t. (
-      turn_none z c.args.room r.n r.dist.now l.marks l.away l.count (l.invariant.rule z t) l.invariant.few near c.count_near.ensures.is some c.if-count-room.false (c.in_default.ensures.is z (l.invariant.rule z t).aways (l.invariant.rule z t).counts),
+      turn_none z c.args.room r.n r.dist.now l.marks l.away l.count (l.invariant.rule z t) l.invariant.few near c.count_near.ensures.is some (omega (arith, c.if-count-from.false, c.from.ensures)) (c.in_default.ensures.is z (l.invariant.rule z t).aways (l.invariant.rule z t).counts),
       turn_crowd z c.args.room r.n r.dist.now l.marks l.away l.count (l.invariant.rule z t) l.invariant.few near c.count_near.ensures.is some c.fullest-in_default.result long c.fullest-in_default.ensures,
     )
 
@@ -52,9 +52,9 @@ choosing-preserved c =
     let u = c.in-Some.ensures.unmarked in
     let less = lowered r.n best.place r.dist.now l.away c.dists-in-choosing.result.now c.dists-in-choosing.ensures.is (omega arith) c.lower.new.away c.lower.ensures in
     record {
-      rule = λ z t. turn_on z c.args.room r.n r.dist.now l.marks l.away l.count (l.invariant.rule z t) l.invariant.few near c.count_near.ensures.is some best.place best.lines c.lower.new.away c.if-count-room.false
+      rule = λ z t. turn_on z c.args.room r.n r.dist.now l.marks l.away l.count (l.invariant.rule z t) l.invariant.few near c.count_near.ensures.is some best.place best.lines c.lower.new.away (omega (arith, c.if-count-from.false, c.from.ensures))
           (c.in-Some.ensures.is z (l.invariant.rule z t).aways (l.invariant.rule z t).counts) u.0 (omega (arith, u.0, length-set c.fill.new.self 0 true)) u.1 less;
-      few = omega (arith, c.if-count-room.false);
+      few = omega (arith, c.if-count-from.false, c.from.ensures);
       some = omega arith;
       outers = outers_lower r.n r.dist.now r.order.now l.away c.lower.new.away c.shrink_all.new.ball (apart r.n r.dist.now best.place) c.shrink_all.ensures less;
     }

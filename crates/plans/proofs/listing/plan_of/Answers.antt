@@ -1,9 +1,8 @@
-use Rattle.std.proofs.Common.{◌≡◌, ℕ, ◌<◌, ◌≤◌, true, false, Some, None, Option, sym, refl, List, [], map, length, get_or, vec_items, ap, ◌∙◌, arith}
+use Rattle.std.proofs.Common.{◌≡◌, ℕ, ◌<◌, ◌≤◌, List, [], map, length, get_or, vec_items, ap, ◌∙◌, arith}
 use Rattle.std.proofs.lemmas.List.FromFn.{fill_by_all, length-map-range_with_len}
 use Rattle.std.proofs.lemmas.List.{length-map}
 use Rattle.std.specs.List.{range_with_len}
-use Rattle.std.proofs.lemmas.Bool.{both_ways}
-use Rattle.std.specs.Option.{MatchOption, is_some}
+use Rattle.std.proofs.lemmas.Bool.{MatchBool-at_true, MatchBool-at_false}
 use Rattle.cards.specs.Cards.{card_of}
 use Rattle.cards.specs.declared.kinds.Card.{Card}
 use Rattle.distances.proofs.Surveyed.{ground_few}
@@ -24,23 +23,14 @@ parts room ls ks ps qs cs ds e f g =
     ∙ ap (λ (x : List (List Line)). record { room = room; landmarks = ks; posts = x; cards = cs }) f
     ∙ ap (λ (x : List Card). record { room = room; landmarks = ks; posts = qs; cards = x }) g
 
--- what an answer says when it is some, and when it is none
-when_some : (A : Type 0) (B : ℕ → Type 0) (r : Option ℕ) → MatchOption r A B → is_some r ≡ true → (u : ℕ) × B u
-when_some A B None h e = absurd (both_ways false refl e)
-when_some A B (Some u) h e = (u, h)
-
-when_none : (A : Type 0) (B : ℕ → Type 0) (r : Option ℕ) → MatchOption r A B → is_some r ≡ false → A
-when_none A B None h e = h
-when_none A B (Some u) h e = absurd (both_ways true e refl)
-
-pub returns-then-is_some : goal.returns-then-is_some
-returns-then-is_some c =
+pub returns-then-any_full : goal.returns-then-any_full
+returns-then-any_full c =
     let s = c.args.land.now in
-    let f = when_some _ (λ u. (u < length c.deref.result.now) × (c.args.room < length (get_or (map told c.deref.result.now) u []))) c.first_full.result c.first_full.ensures (sym c.is_some.ensures ∙ c.if-is_some.true) in
+    let f = MatchBool-at_true _ _ c.if-any_full.true c.any_full.ensures in
     let w = c.in_ok-posts.ensures in
     let e = c.deref.ensures.value in
-    let un : f.0 < (map_in s).n = omega (arith, f.1.0, c.deref.ensures.len, w.0) in
-    (f.0, un, omega (arith, f.1.1, ap (λ (xs : List Post). length (get_or (map told xs) f.0 [])) e, ap length (w.1 f.0 un), post_length (map_in s) (marks_of s) f.0))
+    let un : f.0 < (map_in s).n = omega (arith, f.1, c.deref.ensures.len, w.0) in
+    (f.0, un, omega (arith, f.2, ap (λ (xs : List Post). length (get_or (map told xs) f.0 [])) e, ap length (w.1 f.0 un), post_length (map_in s) (marks_of s) f.0))
 
 pub invariant_of-result : goal.invariant_of-result
 invariant_of-result c =
@@ -61,7 +51,7 @@ returns c =
     let ps = vec_items c.in_ok-posts.posts in
     let long : length (map told ps) ≡ (map_in s).n = omega (arith, length-map ps told, c.in_ok-posts.posts.ok.0, w.0) in
     let e = c.deref.ensures.value in
-    let rest : (u : ℕ) → u < length c.deref.result.now → length (get_or (map told c.deref.result.now) u []) ≤ c.args.room = when_none _ _ c.first_full.result c.first_full.ensures (sym c.is_some.ensures ∙ c.if-is_some.false) in (
+    let rest : (u : ℕ) → u < length c.deref.result.now → length (get_or (map told c.deref.result.now) u []) ≤ c.args.room = MatchBool-at_false _ _ c.if-any_full.false c.any_full.ensures in (
       parts c.args.room (vec_items c.in_ok-landmarks.landmarks) (marked (marks_of s) 0 (map_in s).n) (map told ps) (map (post_of (map_in s) (marks_of s)) (range_with_len 0 (map_in s).n))
           (vec_items c.in_ok-cards.cards) (map (card_of (map_in s) (marks_of s)) (range_with_len 0 (map_in s).n))
           c.in_ok-landmarks.ensures (fill_by_all (post_of (map_in s) (marks_of s)) (map told ps) (map_in s).n [] long w.1) c.in_ok-cards.ensures,

@@ -36,5 +36,5 @@ returns-clause-is c =
     let r = t.map.rows in
     let e : c.loop-v.v ≡ r.n = omega arith in
     let f = subst (λ k. Fading r.n r.dist.now t.away.now c.args.c k c.loop-v.lost) e c.loop-v.invariant.0 in
-    λ z l a k g. c.tally.ensures.is ∙ ap (left_below t.near.now c.loop-v.lost (t.count + 1) t.room) c.loop-v.invariant.1
-    ∙ judged_left z l r.n r.dist.now t.away.now t.near.now c.loop-v.lost t.count t.room c.args.c a k g c.requires.there t.near_is f
+    λ z l a k g. c.tally.ensures.is ∙ ap (left_below t.lines.near.now c.loop-v.lost (t.lines.count + 1) t.room) c.loop-v.invariant.1
+    ∙ judged_left z l r.n r.dist.now t.away.now t.lines.near.now c.loop-v.lost t.lines.count t.room c.args.c a k g c.requires.there t.near_is f

@@ -12,7 +12,7 @@ use Rattle.choosing.proofs.turn.Turn.pick_in.Goals.{then-not-marked+then-is_none
 pub loop-c-init : goal.loop-c-init
 loop-c-init c =
     let t = c.args.self.now in
-    (picking_start t.map.rows.n t.map.rows.dist.now t.marks.now t.away.now t.count t.room, c.requires.losts)
+    (picking_start t.map.rows.n t.map.rows.dist.now t.marks.now t.away.now t.lines.count t.room, c.requires.losts)
 
 pub loop-c-preserved : goal.loop-c-preserved
 loop-c-preserved c =
@@ -22,13 +22,13 @@ loop-c-preserved c =
     elim c.if-not-marked.branch [
       | then-not-marked+then-is_none_or+then-is_none_or-2 w ↦ (let ask = w.is_none_or-then-is_none_or in
           let test : MatchOption l.best (ask.result ≡ true) (λ b. ask.result ≡ ltb w.judge-lines.result b.lines) = search (rules, tests) in (
-            simp w.best-is (picking_takes r.n r.dist.now t.marks.now t.away.now t.count t.room l.c-counter l.best l.invariant.0 w.if-not-marked.true w.judge-lines.result w.judge-lines.ensures.is
+            simp w.best-is (picking_takes r.n r.dist.now t.marks.now t.away.now t.lines.count t.room l.c-counter l.best l.invariant.0 w.if-not-marked.true w.judge-lines.result w.judge-lines.ensures.is
                 (fewer l.best w.judge-lines.result ask.result test w.if-is_none_or-2.true)),
             omega arith,
           ))
       | then-not-marked+then-is_none_or+else-is_none_or-2 w ↦ (let ask = w.is_none_or-then-is_none_or in
           let test : MatchOption l.best (ask.result ≡ true) (λ b. ask.result ≡ ltb w.judge-lines.result b.lines) = search (rules, tests) in (
-            simp w.best-is (picking_stays r.n r.dist.now t.marks.now t.away.now t.count t.room l.c-counter l.best l.invariant.0 w.if-not-marked.true
+            simp w.best-is (picking_stays r.n r.dist.now t.marks.now t.away.now t.lines.count t.room l.c-counter l.best l.invariant.0 w.if-not-marked.true
                 (λ z a k. subst (λ x. NoFewer x l.best) (w.judge-lines.ensures.is z (marks_in t.marks.now) a k w.if-not-marked.true) (no_fewer l.best w.judge-lines.result ask.result test w.if-is_none_or-2.false))),
             omega arith,
           ))
@@ -38,16 +38,16 @@ loop-c-preserved c =
               let most = c.above-most.result in
               let total = get_or c.bound.new.total l.c-counter 0 in
               let test : MatchOption l.best (ask.result ≡ true) (λ b. ask.result ≡ ltb most (min (b.lines + total) 4294967295)) = search (rules, tests) in
-              picking_stays r.n r.dist.now t.marks.now t.away.now t.count t.room l.c-counter l.best l.invariant.0 v.if-not-marked.true
+              picking_stays r.n r.dist.now t.marks.now t.away.now t.lines.count t.room l.c-counter l.best l.invariant.0 v.if-not-marked.true
               (λ z a k. no_fewer_bound l.best most total (above z t.room (with_mark l.c-counter (marks_in t.marks.now))) ask.result test v.if-is_none_or.false
               (omega (arith, c.above-most.ensures.small))
               (omega (
                 arith,
                 c.above-most.ensures.is,
-                ap (over_below t.near.now (t.count + 1) t.room) t.nears,
-                bounded z (marks_in t.marks.now) r.n r.dist.now t.away.now t.near.now c.heat.new.hot c.bound.new.total t.count t.room l.c-counter a k v.if-not-marked.true (omega arith) t.near_is c.heat.ensures c.bound.ensures,
+                ap (over_below t.lines.near.now (t.lines.count + 1) t.room) t.nears,
+                bounded z (marks_in t.marks.now) r.n r.dist.now t.away.now t.lines.near.now c.heat.new.hot c.bound.new.total t.lines.count t.room l.c-counter a k v.if-not-marked.true (omega arith) t.near_is c.heat.ensures c.bound.ensures,
               ))))
-          | else-not-marked-via-else-not-marked v ↦ picking_mark r.n r.dist.now t.marks.now t.away.now t.count t.room l.c-counter l.best l.invariant.0 v.if-not-marked.false
+          | else-not-marked-via-else-not-marked v ↦ picking_mark r.n r.dist.now t.marks.now t.away.now t.lines.count t.room l.c-counter l.best l.invariant.0 v.if-not-marked.false
         ]),
         omega arith,
       )
