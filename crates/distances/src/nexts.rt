@@ -13,7 +13,7 @@ fn first_on(arcs: &ArcsFrom<'_>, away: u32, dist: &[u32]) -> Option<u16>
     requires inside { (k : ℕ) → k < length arcs.now.places.now → slice_index arcs.now.places.now k < length dist.now }
     ensures { FirstOn arcs.now.places.now arcs.now.costs.now away dist.now result }
 {
-    // Costs are read by index, as in the search: a zip takes more instructions.
+    // Costs are read by index, as in the search, so that arcs are gone through in one way.
     for (k, place) in arcs.places.iter().enumerate() {
         let x = dist[*place as usize];
         if x < away && away - x == arcs.costs[k] as u32 {
