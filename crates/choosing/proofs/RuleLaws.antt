@@ -8,9 +8,12 @@ use Rattle.landmarks.specs.Landmarks.{Marks, nearest, line_count}
 use Rattle.landmarks.proofs.Near.{lines_few}
 use Rattle.choosing.specs.Choosing.{sum_below, above, with_mark, Best, NoPlace, Place, or_better, best, Chosen, NoRoom, Marked, go_on, choose, chosen, first}
 use Rattle.choosing.specs.Laws.{BestPlace, Roomy, Crowded, Rule, fits, gives_up, goes_on, ByTheRule, RuleAlone, HasRoom, NoRoomFound, TurnsSuffice, FewPlaces, three_in_a_row, OthersMayFit}
-use Rattle.choosing.proofs.Sums.{sum_each}
+use Rattle.choosing.proofs.Sums.{sum_none, sum_each}
 
 -- ---- lines above room, and posts that have more
+pub roomy_none : (z : Map) (room : ℕ) (l : Marks) → Roomy z room l → above z room l ≡ 0
+roomy_none z room l h = sum_none z.n (λ u. line_count z l u - room) (λ u un. omega (arith, h u un))
+
 pub none_roomy : (z : Map) (room : ℕ) (l : Marks) → above z room l ≡ 0 → Roomy z room l
 none_roomy z room l e u un = omega (arith, sum_each z.n (λ u. line_count z l u - room) e u un)
 
