@@ -1,8 +1,8 @@
 // Counting what is near and what is above room, post by post.
-ghost use Rattle.std.specs.Prelude.{◌≡◌, ℕ, ◌*◌, ◌<◌, ◌≤◌, All, min, length, slice_index};
+ghost use Rattle.std.specs.Prelude.{◌≡◌, ℕ, ◌+◌, ◌*◌, ◌<◌, ◌≤◌, All, min, length, slice_index};
 ghost use Rattle.choosing.specs.Tables.{Nears, left_below, near_by, over_below};
 
-use super::turn::{Lines, Ordered};
+use super::turn::{Lines, Ordered, Turn};
 
 /// How many places of a row are closer than they are to their landmarks.
 fn near_count(row: &[u32], away: &[u32]) -> u32
@@ -51,10 +51,9 @@ impl Lines<'_> {
         ensures is { result ≡ over_below self.now.near.now self.now.count room (length self.now.near.now) }
         ensures small { result ≤ 1024 * length self.now.near.now }
     {
-        let count = self.count;
         self.near
             .iter()
-            .map(|near| (count + *near).saturating_sub(u32::from(room) + 1))
+            .map(|near| (self.count + *near).saturating_sub(u32::from(room) + 1))
             .sum()
     }
 
@@ -66,11 +65,23 @@ impl Lines<'_> {
         ensures is { result ≡ left_below self.now.near.now lost.now self.now.count room (length lost.now) }
         ensures small { result ≤ 1024 * length lost.now }
     {
-        let count = self.count;
         self.near
             .iter()
             .zip(lost)
-            .map(|(near, lost)| (count + *near).saturating_sub(*lost + (u32::from(room) + 1)))
+            .map(|(near, lost)| (self.count + *near).saturating_sub(*lost + (u32::from(room) + 1)))
             .sum()
+    }
+}
+
+impl<'a> Turn<'a> {
+    /// What the lines are counted from with one landmark more that takes nothing away.
+    pub(crate) fn one_more(&self) -> Lines<'a>
+        ensures near { result.near.now ≡ self.now.lines.near.now }
+        ensures count { result.count ≡ self.now.lines.count + 1 }
+    {
+        Lines {
+            near: self.lines.near,
+            count: self.lines.count + 1,
+        }
     }
 }

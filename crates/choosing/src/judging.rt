@@ -6,7 +6,7 @@ ghost use Rattle.landmarks.specs.Landmarks.{Marks};
 ghost use Rattle.ways.specs.Map.{Map};
 ghost use Rattle.ways.specs.Ways.{count_below};
 
-use super::turn::{Lines, Turn};
+use super::turn::Turn;
 
 impl Turn<'_> {
     /// One more lost at each post that has `v` as near and is at `from` from it or farther: these are the last of the ball of `v`.
@@ -41,10 +41,6 @@ impl Turn<'_> {
                 self.fade(v, *from, lost);
             }
         }
-        let more = Lines {
-            near: self.lines.near,
-            count: self.lines.count + 1,
-        };
-        more.tally(lost, self.room)
+        self.one_more().tally(lost, self.room)
     }
 }

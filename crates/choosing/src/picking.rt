@@ -6,7 +6,7 @@ ghost use Rattle.landmarks.specs.Landmarks.{marks_in};
 ghost use Rattle.ways.specs.Map.{Map};
 ghost use Rattle.ways.specs.Ways.{count_below};
 
-use super::turn::{Best, Lines, Turn};
+use super::turn::{Best, Turn};
 
 impl Turn<'_> {
     /// Picks the next landmark in lent memory, which is overwritten. A place whose bound shows that it leaves no fewer lines than one before it isn't judged.
@@ -17,11 +17,7 @@ impl Turn<'_> {
         ensures is { (z : Map) → Aways z (marks_in self.now.marks.now) self.now.map.rows.n self.now.map.rows.dist.now self.now.away.now → count_below self.now.map.rows.n (marks_in self.now.marks.now) ≡ self.now.lines.count → Picked z self.now.room (marks_in self.now.marks.now) result }
         ensures unmarked { Open self.now.marks.now self.now.map.rows.n result }
     {
-        let more = Lines {
-            near: self.lines.near,
-            count: self.lines.count + 1,
-        };
-        let most = more.above(self.room);
+        let most = self.one_more().above(self.room);
         self.heat(hot);
         self.bound(hot, total);
         // No `min_by_key`: which places are judged depends on the best so far.

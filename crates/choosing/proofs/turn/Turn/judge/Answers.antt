@@ -1,4 +1,4 @@
-use Rattle.std.proofs.Common.{◌≡◌, ◌+◌, length, get_or, ap, ◌∙◌, subst, arith}
+use Rattle.std.proofs.Common.{◌≡◌, ℕ, ◌+◌, List, length, get_or, ap, ◌∙◌, subst, arith}
 use Rattle.choosing.specs.Tables.{left_below}
 use Rattle.choosing.proofs.Losses.{Fading, fading_start, fading_none, fading_some, fading_few, judged_left}
 use Rattle.choosing.proofs.turn.Turn.judge.Goals as goal
@@ -36,5 +36,8 @@ returns-clause-is c =
     let r = t.map.rows in
     let e : c.loop-v.v ≡ r.n = omega arith in
     let f = subst (λ k. Fading r.n r.dist.now t.away.now c.args.c k c.loop-v.lost) e c.loop-v.invariant.0 in
-    λ z l a k g. c.tally.ensures.is ∙ ap (left_below t.lines.near.now c.loop-v.lost (t.lines.count + 1) t.room) c.loop-v.invariant.1
+    λ z l a k g. c.tally.ensures.is
+    ∙ ap (λ (xs : List ℕ). left_below xs c.loop-v.lost c.one_more.result.count t.room (length c.loop-v.lost)) c.one_more.ensures.near
+    ∙ ap (λ k. left_below t.lines.near.now c.loop-v.lost k t.room (length c.loop-v.lost)) c.one_more.ensures.count
+    ∙ ap (left_below t.lines.near.now c.loop-v.lost (t.lines.count + 1) t.room) c.loop-v.invariant.1
     ∙ judged_left z l r.n r.dist.now t.away.now t.lines.near.now c.loop-v.lost t.lines.count t.room c.args.c a k g c.requires.there t.near_is f

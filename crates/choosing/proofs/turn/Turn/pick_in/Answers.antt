@@ -1,4 +1,4 @@
-use Rattle.std.proofs.Common.{◌≡◌, ◌+◌, true, ltb, min, get_or, ap, subst, arith, rules}
+use Rattle.std.proofs.Common.{◌≡◌, ℕ, ◌+◌, true, ltb, min, List, length, get_or, ap, subst, arith, rules}
 use Rattle.std.specs.Option.{MatchOption}
 use borrow.Author.Tests.{tests}
 use Rattle.landmarks.specs.Landmarks.{marks_in}
@@ -40,10 +40,12 @@ loop-c-preserved c =
               let test : MatchOption l.best (ask.result ≡ true) (λ b. ask.result ≡ ltb most (min (b.lines + total) 4294967295)) = search (rules, tests) in
               picking_stays r.n r.dist.now t.marks.now t.away.now t.lines.count t.room l.c-counter l.best l.invariant.0 v.if-not-marked.true
               (λ z a k. no_fewer_bound l.best most total (above z t.room (with_mark l.c-counter (marks_in t.marks.now))) ask.result test v.if-is_none_or.false
-              (omega (arith, c.above-most.ensures.small))
+              (omega (arith, c.above-most.ensures.small, ap length c.one_more.ensures.near, t.nears))
               (omega (
                 arith,
                 c.above-most.ensures.is,
+                ap (λ (xs : List ℕ). over_below xs c.one_more.result.count t.room (length xs)) c.one_more.ensures.near,
+                ap (λ k. over_below t.lines.near.now k t.room (length t.lines.near.now)) c.one_more.ensures.count,
                 ap (over_below t.lines.near.now (t.lines.count + 1) t.room) t.nears,
                 bounded z (marks_in t.marks.now) r.n r.dist.now t.away.now t.lines.near.now c.heat.new.hot c.bound.new.total t.lines.count t.room l.c-counter a k v.if-not-marked.true (omega arith) t.near_is c.heat.ensures c.bound.ensures,
               ))))
