@@ -52,6 +52,7 @@ impl<'a> Ordered<'a> {
         requires outers { Outers self.now.rows.n self.now.rows.dist.now self.now.rows.order.now away.now ball.old }
         ensures { Balls self.now.rows.n self.now.rows.dist.now self.now.rows.order.now away.now ball.new }
     {
+        // With an index into `away`, for the reason in `lower`.
         for (v, ball) in ball.iter_mut().enumerate() {
             *ball = self.shrink(v, away[v], *ball as usize) as u32;
         }

@@ -33,7 +33,7 @@ fn choose_by(
     away.copy_from_slice(map.dists(0));
     ball.fill(map.rows.n as u32);
     let mut count: u32 = 1;
-    // It is left by its label when every post has room.
+    // Left by its label and not by a condition: whether every post has room is known only after this turn has counted.
     'choosing: loop {
         map.count_near(away, near);
         let lines = Lines { near, count };

@@ -36,6 +36,7 @@ impl Turn<'_> {
         ensures small { result ≤ 1024 * self.now.map.rows.n }
     {
         lost.fill(0);
+        // With an index into `away`: `fade` wants the place besides, so that a zip would be no plainer.
         for (v, from) in self.map.dists(c).iter().enumerate() {
             if *from < self.away[v] {
                 self.fade(v, *from, lost);

@@ -22,6 +22,7 @@ impl Turn<'_> {
         self.bound(hot, total);
         // No `min_by_key`: which places are judged depends on the best so far.
         let mut best: Option<Best> = None;
+        // With an index into `total`: `judge` wants the place besides, so that a zip would be no plainer.
         for (c, marked) in self.marks.iter().enumerate() {
             if !*marked && best.is_none_or(|best| most < best.lines.saturating_add(total[c])) {
                 let lines = self.judge(c, lost);

@@ -44,7 +44,8 @@ fn work_out_all<O: Order>(map: &RoadMap<'_>, dist: &mut [u32], next: &mut [u16],
     }
 }
 
-// The lists come one by one below, as slices of 32 and 16 bits, so that whoever calls may have them where he likes.
+// The lists come one by one below, as slices of 32 and 16 bits, so that whoever calls may have them where he likes. They hold plain numbers, so the
+// highest stands for none: with a case for none an entry would take more than its bits.
 /// Works out one row: how far each place is from `d`, and the next place from it towards `d`; the highest number where there is no way, and no next place.
 /// Takes at most (n + roads) times log n steps. Refuses, and leaves all as it was, a place that isn't there and memory of another size than n.
 pub fn row(map: &RoadMap<'_>, d: usize, dist: &mut [u32], next: &mut [u16]) -> Result<(), Fault>

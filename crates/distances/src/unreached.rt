@@ -7,6 +7,7 @@ use crate::order::Unnoted;
 use crate::target::Target;
 use maps::map::RoadMap;
 
+// The highest number is that of no way, as in every row.
 /// Where the first distance stands that is that of no way.
 fn first_apart(dist: &[u32]) -> Option<usize>
     ensures { result ≡ position (λ away. away == 4294967295) dist.now }

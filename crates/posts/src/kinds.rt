@@ -6,7 +6,7 @@ ghost use Rattle.std.specs.Prelude.{◌≡◌, ℕ, ◌+◌, ◌<◌, ◌≤◌,
 pub struct Line {
     pub place: u16,
     pub next: u16,
-    // A mark, as the document of a plan has one in the highest bit.
+    // A mark and no enum: the document of a plan is to have it in one bit.
     pub near: bool,
 }
 
