@@ -1,6 +1,7 @@
 //! What a program has to answer, and how an answer differs from it.
 
 use crate::program::Answer;
+use crate::refusals::words_in;
 use crate::report::Difference;
 use std::fmt::Display;
 
@@ -8,7 +9,8 @@ use std::fmt::Display;
 pub enum Expected {
     /// Status 0, exactly this text, and nothing on standard error.
     Says(String),
-    /// Status 1, no text, and one line on standard error that begins like this.
+    /// Status 1, no text, and one line on standard error that begins like this; where that names a
+    /// fault and where it is, the fault's words follow, and nothing else.
     Refuses(String),
 }
 
@@ -51,9 +53,7 @@ impl Expected {
             Expected::Refuses(beginning) => {
                 answer.status == Some(1)
                     && answer.stdout.is_empty()
-                    && answer.stderr.starts_with(beginning.as_bytes())
-                    && answer.stderr.iter().position(|&byte| byte == b'\n')
-                        == answer.stderr.len().checked_sub(1)
+                    && refuses(&answer.stderr, beginning)
             }
         }
     }
@@ -83,6 +83,20 @@ impl Expected {
         );
         format!("    expected: {expected}\n    found:    {found}")
     }
+}
+
+/// Whether what stands on standard error is one line that begins like this, and tells a fault in its words.
+fn refuses(stderr: &[u8], beginning: &str) -> bool {
+    let Some(line) = std::str::from_utf8(stderr)
+        .ok()
+        .and_then(|text| text.strip_suffix('\n'))
+    else {
+        return false;
+    };
+    let Some(rest) = line.strip_prefix(beginning) else {
+        return false;
+    };
+    !line.contains('\n') && words_in(beginning).is_none_or(|words| rest == words)
 }
 
 /// Two texts from the first word on in which they differ, to the end of that line.

@@ -1,12 +1,13 @@
 //! Golden files: tests/golden/NAME.in is given to a program, NAME.out and NAME.err have what it says.
 //!
 //! The part of NAME before the first `-` is the program. NAME.out is the whole of standard output.
-//! NAME.err is empty, or has the beginning of the one line on standard error, as far as the rules
-//! say it; then the status has to be 1. The oracle is held to the same files as the programs.
+//! NAME.err is empty, or has the beginning of the one line on standard error, up to the words of the
+//! fault; then the status has to be 1. The oracle is held to the same files as the programs.
 
 use crate::expected::Expected;
 use crate::parallel;
 use crate::program::{Answer, Programs};
+use crate::refusals::words_in;
 use crate::report::{Difference, Report};
 use oracle::programs;
 use std::fs;
@@ -70,11 +71,13 @@ fn oracles_answer(name: &str, input: &[u8]) -> Answer {
             stderr: vec![],
         },
         Err(refusal) => {
-            let line = format!("{name}: {refusal}: {}\n", refusal.fault.text());
+            // The oracle has words of its own behind this; those of the programs are no business of its.
+            let line = format!("{name}: {refusal}: ");
+            let words = words_in(&line).unwrap_or_default();
             Answer {
                 status: Some(1),
                 stdout: vec![],
-                stderr: line.into_bytes(),
+                stderr: format!("{line}{words}\n").into_bytes(),
             }
         }
     }

@@ -10,6 +10,7 @@ mod giving;
 mod golden;
 mod parallel;
 mod program;
+mod refusals;
 mod report;
 mod roads;
 mod rows;

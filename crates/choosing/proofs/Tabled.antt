@@ -32,7 +32,7 @@ module _ (z : Map) (l : Marks) (n : ℕ) (table away : List ℕ) (a : Aways z l 
       omega (arith, h)
 
   -- lines above room, as the code counts them
-  over_now : (room count : ℕ) → count_below n l ≡ count → over_table n table away count room ≡ above z room l
+  pub over_now : (room count : ℕ) → count_below n l ≡ count → over_table n table away count room ≡ above z room l
   over_now room count h =
       let e = a.tabled.places in
       let g = over_is z (apart n table) far_of both_of l (λ v. get_or away v 0) way room in

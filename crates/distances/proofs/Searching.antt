@@ -9,7 +9,7 @@ use Rattle.ways.proofs.Settling.{read_at, Going, going_start, going_more, going_
 use Rattle.ways.proofs.Certificate.{far_is}
 use Rattle.maps.specs.Arcs.{map_in, Arcs}
 use Rattle.maps.proofs.Costs.{starts_most, arc_cost, road_arc, meaning}
-use Rattle.distances.specs.Keys.{empty, key_of, leaf, Moved}
+use Rattle.distances.specs.Keys.{empty, key_of, leaf, Idle, Moved}
 use Rattle.distances.specs.Rows.{far_number, FarRow}
 use Rattle.distances.specs.Orders.{Reached, Sorted}
 use Rattle.distances.specs.Steps.{Followed}
@@ -52,7 +52,7 @@ pub record Searching (z : Map) (n d : ℕ) (dist keys : List ℕ) : Type 0 where
   pub fits : (a : ℕ) → a < n → get_or dist a 0 ≤ none
 
 -- ---- the start
-module _ (z : Map) (n d : ℕ) (zn : z.n ≡ n) (few : n ≤ 512) (dn : d < n) (blank keys : List ℕ) (m : Moved n blank keys d (key_of 0 d)) (b : (a : ℕ) → a < n → leaf n blank a ≡ empty) where
+module _ (z : Map) (n d : ℕ) (zn : z.n ≡ n) (few : n ≤ 512) (dn : d < n) (blank keys : List ℕ) (m : Moved n blank keys d (key_of 0 d)) (b : Idle n blank) where
   abbrev first : List ℕ
   first = set (replicate n none) d 0
 

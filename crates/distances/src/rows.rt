@@ -1,17 +1,28 @@
 // One row of distances and next places, and all rows of a map.
 ghost use Rattle.std.specs.Prelude.{◌≡◌, ℕ, ◌+◌, ◌*◌, ◌^◌, ◌<◌, ◌≤◌, length};
 ghost use Rattle.maps.specs.Charts.{chart};
+ghost use Rattle.distances.specs.Keys.{Idle};
 ghost use Rattle.distances.specs.Orders.{Goes, OrderRow, OrderRows, Room};
 ghost use Rattle.distances.specs.Rows.{FarRow, FarRows, HopRow, HopRows, Worked, WorkedAll, WorkedAllInOrder};
 
 use crate::order::{Noted, Order, Unnoted};
+use crate::queue::Queue;
 use crate::target::Target;
 use maps::kinds::Fault;
 use maps::map::RoadMap;
 
 impl Target<'_> {
     /// Works out one row in memory of the right size, and notes the order of the places in entries `from` to `from + n - 1`.
-    fn work_out<O: Order>(&self, dist: &mut [u32], next: &mut [u16], from: usize, order: &mut [u16])
+    fn work_out<O: Order>(
+        &self,
+        queue: &mut Queue,
+        dist: &mut [u32],
+        next: &mut [u16],
+        from: usize,
+        order: &mut [u16],
+    )
+        requires size { queue.old.n ≡ self.now.map.n }
+        requires idle { Idle self.now.map.n queue.old.keys }
         requires dists { length dist.old ≡ self.now.map.n }
         requires nexts { length next.old ≡ self.now.map.n }
         requires room { Room O.holds order.old (from + self.now.map.n) }
@@ -19,8 +30,10 @@ impl Target<'_> {
         ensures far { FarRow (chart self.now.map) self.now.place dist.new }
         ensures hop { HopRow (chart self.now.map) self.now.place next.new }
         ensures order { Goes O.holds order.old order.new (from + self.now.map.n) (OrderRow self.now.map.n from dist.new) }
+        ensures size { queue.new.n ≡ self.now.map.n }
+        ensures idle { Idle self.now.map.n queue.new.keys }
     {
-        self.distances::<O>(dist, from, order);
+        self.distances::<O>(queue, dist, from, order);
         self.nexts(dist, next);
     }
 }
@@ -35,12 +48,19 @@ fn work_out_all<O: Order>(map: &RoadMap<'_>, dist: &mut [u32], next: &mut [u16],
     ensures orders { Goes O.holds order.old order.new (map.now.n * map.now.n) (λ _ orders. OrderRows map.now.n dist.new orders) }
 {
     let n = map.n;
+    let mut queue = Queue::new(n);
     // By ranges: chunks of both lists, zipped and counted, are no plainer, and no lemma says what was written through them.
     for place in 0..n {
         let target = Target { map: *map, place };
         let from = place * n;
         let to = from + n;
-        target.work_out::<O>(&mut dist[from..to], &mut next[from..to], from, order);
+        target.work_out::<O>(
+            &mut queue,
+            &mut dist[from..to],
+            &mut next[from..to],
+            from,
+            order,
+        );
     }
 }
 
@@ -58,7 +78,7 @@ pub fn row(map: &RoadMap<'_>, d: usize, dist: &mut [u32], next: &mut [u16]) -> R
         map: *map,
         place: d,
     };
-    target.work_out::<Unnoted>(dist, next, 0, &mut []);
+    target.work_out::<Unnoted>(&mut Queue::new(map.n), dist, next, 0, &mut []);
     Ok(())
 }
 

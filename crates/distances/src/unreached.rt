@@ -4,6 +4,7 @@ ghost use Rattle.maps.specs.Charts.{chart};
 ghost use Rattle.distances.specs.Unreached.{lowest_apart, Lowest};
 
 use crate::order::Unnoted;
+use crate::queue::Queue;
 use crate::target::Target;
 use maps::map::RoadMap;
 
@@ -27,6 +28,6 @@ pub fn unreached(map: &RoadMap<'_>) -> Option<u16>
         map: *map,
         place: 0,
     };
-    target.distances::<Unnoted>(dist, 0, &mut []);
+    target.distances::<Unnoted>(&mut Queue::new(map.n), dist, 0, &mut []);
     first_apart(dist).map(|place| place as u16)
 }

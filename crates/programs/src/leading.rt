@@ -15,7 +15,12 @@ impl Program<'_> {
         let bytes = self.input(words)?;
         let mut from = Reader::new(&bytes);
         let map = map_at(self.rt.alloc(), &mut from).map_err(|stop| self.complain(stop))?;
-        self.say_map(&map)?;
-        self.say(format_args!("then {} bytes", from.left()))
+        // Both lines in one write: whoever reads the first and goes away is no failure, and others that write to the same file can't come between.
+        self.say(format_args!(
+            "map: {} places, {} roads\nthen {} bytes",
+            map.len(),
+            map.roads().len(),
+            from.left()
+        ))
     }
 }

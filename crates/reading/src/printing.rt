@@ -1,20 +1,30 @@
 // How records, their places and refusals print: the words in which a program tells why it stopped reading.
-ghost use Rattle.std.specs.Prelude.{Some};
+ghost use Rattle.std.specs.Prelude.{◌≡◌, Some};
 ghost use Rattle.reading.specs.Words.{record_name, place_words, refusal_words, stop_words};
 
 use super::kinds::{Place, Record, Refusal, Stop};
 use std::error::Error;
 use std::fmt;
 
+impl Record {
+    // A function besides the printing, which may fail: this can't, and whoever wants the name as text has it.
+    /// The name of the sort.
+    pub fn name(self) -> &'static str
+        ensures { result.now ≡ record_name self }
+    {
+        match self {
+            Record::Header => "header",
+            Record::Road => "road",
+            Record::End => "end",
+        }
+    }
+}
+
 impl fmt::Display for Record {
     ghost output = { λ sort. Some (record_name sort) };
 
     fn fmt<W: fmt::Write>(&self, f: &mut fmt::Formatter<W>) -> fmt::Result {
-        f.write_str(match self {
-            Record::Header => "header",
-            Record::Road => "road",
-            Record::End => "end",
-        })
+        f.write_str(self.name())
     }
 }
 

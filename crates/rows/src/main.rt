@@ -26,11 +26,15 @@ fn show_rows(program: Program<'_>, map: &RoadMap<'_>) -> Result<(), Ended> {
     Ok(())
 }
 
-// The sum of all distances and next places. A `fold` that may wrap, since `sum` of a chain of two asks for a bound that the check doesn't find from their lengths.
+// The sum of all distances and next places. Folds that may wrap, since `sum` asks for a bound that the check doesn't find from their lengths;
+// one for each list, since a chain of both asks at each number in which list it stands.
 fn sum_of(dist: &[u32], next: &[u16]) -> u64 {
-    let dist = dist.iter().map(|x| u64::from(*x));
-    let next = next.iter().map(|e| u64::from(*e));
-    dist.chain(next).fold(0, u64::wrapping_add)
+    let dists = dist
+        .iter()
+        .map(|x| u64::from(*x))
+        .fold(0, u64::wrapping_add);
+    let nexts = next.iter().map(|e| u64::from(*e));
+    nexts.fold(dists, u64::wrapping_add)
 }
 
 // Works out all rows so many times, and prints the sum of the last.

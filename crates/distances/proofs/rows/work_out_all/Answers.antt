@@ -14,6 +14,8 @@ loop-place-preserved g c =
     let ld : length c.work_out.new.dist ≡ n = c.work_out.auto.dist ∙ length-between c.loop-place.dist (d * n) (d * n + n) (omega (arith, h, i.dists)) ∙ omega arith in
     let ln : length c.work_out.new.next ≡ n = c.work_out.auto.next ∙ length-between c.loop-place.next (d * n) (d * n + n) (omega (arith, h, i.nexts)) ∙ omega arith in
     record {
+      size = c.work_out.ensures.size;
+      idle = c.work_out.ensures.idle;
       dists = mid_long d n c.loop-place.dist c.work_out.new.dist c.loop-place-test.true i.dists ld;
       nexts = mid_long d n c.loop-place.next c.work_out.new.next c.loop-place-test.true i.nexts ln;
       rows = before_more (chart c.args.map.now) n d ((d * n + n) - d * n) ((d * n + n) - d * n) c.loop-place.dist c.loop-place.next c.work_out.new.dist c.work_out.new.next refl c.loop-place-test.true i.dists i.nexts ld ln i.rows c.work_out.ensures.far c.work_out.ensures.hop;

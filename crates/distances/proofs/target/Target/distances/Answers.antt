@@ -13,11 +13,11 @@ loop-u-init g c =
     let t = c.args.self.now in
     let n = t.map.n in
     let e : c.fill.new.self ≡ replicate n none = c.fill.ensures.after (λ y e. e) ∙ ap (λ k. replicate k none) c.requires.dists in
-    let moved : Moved n c.new-queue.result.keys c.put.new.self.keys t.place (key_of 0 t.place) = subst (λ k. Moved k c.new-queue.result.keys c.put.new.self.keys t.place (key_of 0 t.place)) c.new-queue.ensures.size c.put.ensures.moved in
+    let moved : Moved n c.args.queue.now.keys c.put.new.self.keys t.place (key_of 0 t.place) = subst (λ k. Moved k c.args.queue.now.keys c.put.new.self.keys t.place (key_of 0 t.place)) c.requires.size c.put.ensures.moved in
     record {
-      size = c.put.ensures.size ∙ c.new-queue.ensures.size;
+      size = c.put.ensures.size ∙ c.requires.size;
       searching = subst (λ (xs : List ℕ). Searching (chart t.map) n t.place (set xs t.place 0) c.put.new.self.keys) (sym e)
-          (searching_start (chart t.map) n t.place refl (view_arcs t.map).few t.there c.new-queue.result.keys c.put.new.self.keys moved c.new-queue.ensures.none);
+          (searching_start (chart t.map) n t.place refl (view_arcs t.map).few t.there c.args.queue.now.keys c.put.new.self.keys moved c.requires.idle);
       noting = λ xs h l. (
         xs,
         h,
@@ -25,7 +25,7 @@ loop-u-init g c =
           long = refl;
           rest = λ j m. refl;
           order = subst (λ (ds : List ℕ). Ordering n (λ a. get_or (set ds t.place 0) a 0) (settled n (set ds t.place 0) c.put.new.self.keys) (λ j. get_or xs (c.args.from + j) 0) 0) (sym e)
-              (order_start (chart t.map) n t.place refl (view_arcs t.map).few t.there c.new-queue.result.keys c.put.new.self.keys moved c.new-queue.ensures.none (λ j. get_or xs (c.args.from + j) 0));
+              (order_start (chart t.map) n t.place refl (view_arcs t.map).few t.there c.args.queue.now.keys c.put.new.self.keys moved c.requires.idle (λ j. get_or xs (c.args.from + j) 0));
         },
       );
       few = omega arith;
