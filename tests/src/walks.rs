@@ -93,6 +93,7 @@ pub fn compare(built: &Programs, root: &Path) -> Report {
     let mut found = parallel::map(&maps, |given| given.compare(built));
     found.push(refused_landmarks(built));
     found.push(refused_maps(built));
+    found.push(full_posts(built));
     Report::of(found).with_walks(walks)
 }
 
@@ -165,6 +166,22 @@ fn generated(random: &mut Random) -> Vec<Given> {
     // The largest first, so that no thread is left with one of them at the end.
     maps.sort_by_key(|given| std::cmp::Reverse(given.places));
     maps
+}
+
+/// A path of 512 places with one landmark, at which posts would have more lines than there is room for.
+fn full_posts(built: &Programs) -> Vec<Option<Difference>> {
+    let bytes = write_map(&generate(Kind::Path, 1, 512, 511));
+    let ways: [&[&str]; 2] = [&["--landmarks", "0"], &["--landmarks", "0", "--posts"]];
+    let compare_one = |words: &[&str]| {
+        let words: Vec<String> = words.iter().map(|word| word.to_string()).collect();
+        let title = format!("walk {}", words.join(" "));
+        Expected::Refuses("walk: fault 6: ".to_string()).compare(
+            built.run("walk", &words, &bytes),
+            title,
+            &bytes,
+        )
+    };
+    ways.map(compare_one).into()
 }
 
 /// Lists that are empty or name a place that isn't there, and words that are no list.
