@@ -38,7 +38,6 @@ impl Survey {
     }
 
     /// Where the numbers of the way from place `a` to place `d` stand in the rows, if there are such places.
-    #[inline(always)]
     fn entry(&self, d: usize, a: usize) -> Option<usize>
         ensures { MatchOption result ((nat_lt d self.now.map.n && nat_lt a self.now.map.n) ≡ false) (λ at. (d < self.now.map.n) × (a < self.now.map.n) × (at ≡ d * self.now.map.n + a)) }
     {

@@ -8,4 +8,5 @@ pub mod Filled
 pub mod RoadArcs
 pub mod Laid
 pub mod Searching
+pub mod Halves
 pub mod Views

@@ -4,3 +4,4 @@ pub mod Arcs
 pub mod Charts
 pub mod Laying
 pub mod Laid
+pub mod Sought

@@ -8,6 +8,7 @@ pub mod kinds;
 mod laying;
 pub mod making;
 pub mod map;
+pub mod placed;
 pub mod reading;
 pub mod roads;
 #[cfg(test)]

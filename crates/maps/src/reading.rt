@@ -4,17 +4,18 @@ ghost use Rattle.maps.specs.Charts.{chart};
 
 use super::arcs::ArcsFrom;
 use super::map::RoadMap;
+use super::placed::search;
 
 impl RoadMap<'_> {
     // 0 and no Option where there is no road, as the map of the definitions has it.
-    /// The cost of the road between places `a` and `e`, 0 where there is none. It halves the arcs of `a` until one is left.
+    /// The cost of the road between places `a` and `e`, 0 where there is none. It halves the arcs of `a` until it meets the one to `e`.
     pub fn cost(&self, a: usize, e: usize) -> u16
         ensures { result ≡ (chart self.now).cost a e }
     {
         let ArcsFrom { places, costs } = self.arcs(a);
-        match places.binary_search_by_key(&e, |place| usize::from(*place)) {
-            Ok(k) => costs[k],
-            Err(_) => 0,
+        match search(places, e) {
+            Some(k) => costs[k],
+            None => 0,
         }
     }
 }

@@ -2,6 +2,7 @@
 use super::buf::RoadMapBuf;
 use super::kinds::{Fault, Road};
 use super::map::RoadMap;
+use super::placed::search;
 use std::alloc::Global;
 use std::process::Abort;
 use std::test::Fail;
@@ -109,4 +110,17 @@ fn refused(rt: HostRuntime) {
         Some(Fault::Order)
     );
     assert_eq!(rt; lay(heap, 3, &[road(0, 1, 0)]).err(), Some(Fault::Cost));
+}
+
+#[test]
+fn places_in_lists_of_all_lengths(rt: HostRuntime) -> Result<(), Fail> {
+    let mut evens: Vec<u16> = Vec::new(rt.alloc());
+    for count in 0..40u16 {
+        for place in 0..82usize {
+            let wanted = place % 2 == 0 && place / 2 < usize::from(count);
+            assert_eq!(rt; search(&evens, place), wanted.then_some(place / 2));
+        }
+        evens.push(2 * count)?;
+    }
+    Ok(())
 }

@@ -1,16 +1,13 @@
 -- Lines whose places rise: each place is below all later ones, and the one line for a place is the line found. Assumes nothing.
-use Rattle.std.proofs.Common.{Bor, MatchOption, Option, Result, Ok, Err, sym, ◌≡◌, ℕ, zero, suc, ◌-◌, ◌<◌, ◌≤◌, false, eqb, List, [], ◌∷◌, length, get_or, Some, None, refl, ap, ◌∙◌, inl, inr, add-one, arith}
+use Rattle.std.proofs.Common.{Bor, MatchOption, Option, sym, ◌≡◌, ℕ, zero, suc, ◌-◌, ◌<◌, false, eqb, List, [], ◌∷◌, length, get_or, Some, None, refl, ap, ◌∙◌, inl, inr, add-one, arith}
 use Rattle.std.proofs.lemmas.List.{length-take-le, get_or-take}
-use Rattle.std.proofs.lemmas.Bool.{cases_eq, cases_lt, eq-eqb, ne_eqb, cond-true, cond-false}
-use Rattle.std.proofs.lemmas.Bool.Decides.{nat_tests}
-use Rattle.std.proofs.lemmas.Cmp.{ranked}
+use Rattle.std.proofs.lemmas.Bool.{cases_eq, eq-eqb, ne_eqb, cond-true, cond-false}
 use Rattle.std.proofs.lemmas.List.Sorted.{IsNonDecreasingBy-from_default}
-use Rattle.std.specs.List.Sorted.{IsBinarySearchResult, IsNonDecreasingBy, IsSearchInRange}
-use Rattle.std.specs.Ordering.{nat_cmp, ordering_index}
+use Rattle.std.specs.List.Sorted.{IsNonDecreasingBy}
 use Rattle.std.specs.Option.{option_copied}
-use Rattle.std.specs.Result.{result_ok}
 use Rattle.std.specs.List.{slice_get}
 use Rattle.std.proofs.lemmas.Option.{get_or_from_slice_get, slice_get-get_or}
+use Rattle.maps.specs.Sought.{Sought}
 use Rattle.posts.specs.declared.kinds.Line.{Line}
 use Rattle.posts.specs.declared.kinds.Post.{Post}
 use Rattle.posts.specs.Posts.{told, find_in, place_at}
@@ -70,21 +67,12 @@ find_missing q (x ∷ xs) other =
 
 -- a search by places ends at the line for a place, or finds that there is none
 module _ (p : Post) (q : ℕ) where
-  comparisons_rise : IsNonDecreasingBy (λ (x : Line). ordering_index (nat_cmp x.place q)) (told p)
-  comparisons_rise = IsNonDecreasingBy-from_default (λ (x : Line). ordering_index (nat_cmp x.place q)) (told p) blank (λ i j le in_range.
-      let rise : place_at (told p) i ≤ place_at (told p) j = elim (cases_eq i j) [
-        | inl e ↦ omega (arith, ap (place_at (told p)) e)
-        | inr ne ↦ omega (arith, told_below p j i (omega arith) in_range)
-      ] in
-      grind (arith, nat_tests))
+  places_rise : IsNonDecreasingBy (λ (x : Line). x.place) (told p)
+  places_rise = IsNonDecreasingBy-from_default (λ (x : Line). x.place) (told p) blank (λ i j le in_range. elim (cases_eq i j) [
+    | inl e ↦ omega (arith, ap (place_at (told p)) e)
+    | inr ne ↦ omega (arith, told_below p j i (omega arith) in_range)
+  ])
 
-  pub searched : (r : Result ℕ ℕ) (o : Option ℕ) → o ≡ result_ok r → IsSearchInRange r (length (told p)) → IsBinarySearchResult (λ (x : Line). nat_cmp x.place q) (told p) r
-      → MatchOption o (find_in q (told p) ≡ None) (λ i. find_in q (told p) ≡ Some (get_or (told p) i blank))
-  searched (Ok i) o e in_range equal =
-      let at : place_at (told p) i ≡ q = ranked (place_at (told p) i) q _ (sym (equal blank)) in
-      rw e (find_first q (told p) i in_range (λ k ki s. omega (arith, told_below p i k ki in_range, at)) at)
-  searched (Err i) o e in_range parted =
-      rw e (find_missing q (told p) (λ k h s. elim (cases_lt k i) [
-        | inl lt ↦ omega (arith, ranked (place_at (told p) k) q _ (sym ((parted comparisons_rise).0 k blank (omega arith) lt)))
-        | inr ge ↦ omega (arith, ranked (place_at (told p) k) q _ (sym ((parted comparisons_rise).1 k blank ge h)))
-      ]))
+  pub searched : (r : Option ℕ) → Sought (λ (x : Line). x.place) (told p) q r → MatchOption r (find_in q (told p) ≡ None) (λ i. find_in q (told p) ≡ Some (get_or (told p) i blank))
+  searched None missing = find_missing q (told p) (λ k h. missing places_rise k blank (omega arith) h)
+  searched (Some i) (in_range, at) = find_first q (told p) i in_range (λ k ki s. omega (arith, told_below p i k ki in_range, at blank)) (at blank)

@@ -4,6 +4,15 @@ ghost use Rattle.posts.specs.Posts.{told, find_in};
 ghost use Rattle.posts.specs.Pushing.{Pushed};
 
 use super::kinds::{Line, Post, Refused};
+use maps::placed::{Placed, search};
+
+impl Placed for Line {
+    ghost stands = { λ line. line.place };
+
+    fn place(&self) -> usize {
+        usize::from(self.place)
+    }
+}
 
 impl Post {
     /// A post with no lines, in constant time; it refuses nothing.
@@ -61,7 +70,7 @@ impl Post {
         ensures { result ≡ find_in place (told self.now) }
     {
         let lines = self.lines();
-        let at = lines.binary_search_by_key(&place, |line| line.place).ok()?;
+        let at = search(lines, usize::from(place))?;
         Some(lines[at])
     }
 }
