@@ -1,4 +1,4 @@
--- Searching a list of what stands by its place.
+-- What a search for a place answers, in a list of what stands there by its place. Assumes nothing.
 use Rattle.std.specs.Prelude.{◌≡◌, ℕ, ◌<◌, List, length, Option, MatchOption}
 use Rattle.std.specs.List.{AllWithin, HoldsAt}
 use Rattle.std.specs.List.Sorted.{IsNonDecreasingBy}

@@ -26,10 +26,11 @@ pub fn search<T: Placed>(items: &[T], place: usize) -> Option<usize>
 {
     let mut low: usize = 0;
     let mut high = items.len();
+    // Down to one item and no further, so that a list of one takes no turn: many posts are that short.
     while high - low > 1 {
         let middle = low + (high - low) / 2;
-        // Two tests, since a match on `cmp` is compiled to two and then to one on what they found.
         let here = items[middle].place();
+        // Two tests and no match on `cmp`, for which the compiler makes an `Ordering` of the same two tests first.
         if here == place {
             return Some(middle);
         }

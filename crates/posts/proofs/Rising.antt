@@ -12,7 +12,7 @@ use Rattle.posts.specs.declared.kinds.Line.{Line}
 use Rattle.posts.specs.declared.kinds.Post.{Post}
 use Rattle.posts.specs.Posts.{told, find_in, place_at}
 
-abbrev blank : Line
+abbrev pub blank : Line
 blank = record { place = 0; next = 0; near = false }
 
 pub told_length : (p : Post) → length (told p) ≡ p.count

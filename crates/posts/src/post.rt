@@ -65,7 +65,7 @@ impl Post {
     }
 
     /// The line for a place, `None` where there is none. The lines still in question are halved at
-    /// each step: at most eight halvings for 255 lines. It refuses nothing.
+    /// each step: at most seven halvings for 255 lines, and a look at the last. It refuses nothing.
     pub fn find(&self, place: u16) -> Option<Line>
         ensures { result ≡ find_in place (told self.now) }
     {

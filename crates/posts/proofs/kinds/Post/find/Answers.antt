@@ -1,17 +1,17 @@
 -- A search of the lines by their places, which rise. Assumes nothing.
-use Rattle.std.proofs.Common.{◌≡◌, ℕ, List, get_or, Option, Some, None, MatchOption, false, sym, subst, ◌∙◌}
+use Rattle.std.proofs.Common.{◌≡◌, ℕ, List, get_or, Option, Some, None, MatchOption, sym, subst, ◌∙◌}
 use Rattle.maps.specs.Sought.{Sought}
 use Rattle.posts.specs.declared.kinds.Line.{Line}
 use Rattle.posts.specs.declared.kinds.Post.{Post}
 use Rattle.posts.specs.Posts.{told, find_in}
-use Rattle.posts.proofs.Rising.{searched}
+use Rattle.posts.proofs.Rising.{blank, searched}
 use Rattle.posts.proofs.kinds.Post.find.Goals as goal
 
 -- the same of lines that are lent
 lent_line : (p : Post) (q s : ℕ) (lines : List Line) (r : Option ℕ) → lines ≡ told p → s ≡ q → Sought (λ (x : Line). x.place) lines s r
-    → MatchOption r (find_in q (told p) ≡ None) (λ i. find_in q (told p) ≡ Some (get_or lines i (record { place = 0; next = 0; near = false })))
+    → MatchOption r (find_in q (told p) ≡ None) (λ i. find_in q (told p) ≡ Some (get_or lines i blank))
 lent_line p q s lines r e f h =
-    subst (λ (ls : List Line). MatchOption r (find_in q (told p) ≡ None) (λ i. find_in q (told p) ≡ Some (get_or ls i (record { place = 0; next = 0; near = false })))) (sym e)
+    subst (λ (ls : List Line). MatchOption r (find_in q (told p) ≡ None) (λ i. find_in q (told p) ≡ Some (get_or ls i blank))) (sym e)
     (searched p q r (rw f at (rw e at h)))
 
 pub bounds-lines-at : goal.bounds-lines-at
